@@ -1,17 +1,18 @@
 # SPDX-License-Identifier: MIT
-"""The RRset cache of a recursive DNS resolver (RFC 2181, RFC 2308, RFC 8767), over the library for
-C.
+"""The RRset cache of a recursive DNS resolver (RFC 2181, RFC 2308, RFC 8767), on top of the library
+for C.
 
-A `SharedCache` is a cache that threads share: it does its own locking and limits its memory. A
+A `SharedCache` is a cache that threads share. It does its own locking and limits its memory. A
 `Shelf` is one shard of a cache. One thread at a time may use a shelf, or any number of threads that
 make only read-only calls (`peek`, `peek_alias`, `stored`, `sizes`, `next_expiry`). A `Cache` is
 several shelves, each with a Python lock. Names are text, such as "www.example.", or octets in wire
 form (RFC 1035 section 3.1). Timestamps (`moment`) and TTLs are in seconds. Rdata (`data`) are
-octets without compressed names. A call that fails raises a subclass of `Refused`.
+octets in wire form, without compressed names. A call that fails raises a subclass of `Refused`.
 
-The first call loads the library: the file that the environment variable RRCACHE_LIBRARY names;
-otherwise the file that was installed with this package; otherwise build/librrcache.so of the
-repository that contains this package; otherwise the file that the system's loader finds.
+The first call loads the library. This is the file that the environment variable RRCACHE_LIBRARY
+names, if it is set; otherwise the file that was installed with this package; otherwise
+build/librrcache.so of the repository that contains this package; otherwise the file that the
+system's loader finds.
 """
 from .answers import Answer, AnswerSet
 from .cache import Cache

@@ -1,5 +1,5 @@
 # SPDX-License-Identifier: MIT
-"""Answers of a `SharedCache`, and look-ups of names."""
+"""The answers of a `SharedCache`, and the look-ups that return them."""
 from __future__ import annotations
 
 import functools
@@ -19,7 +19,8 @@ from .parts import NAMES_MOST, OCTETS_AT, AnyName, Name
 from .refusals import Status
 from .replies import OfKind, StoredEntry
 
-# A buffer of this size has room for every answer but those that rrcache.h names.
+# A buffer of this size has room for every answer except those that rrcache.h describes at
+# RRCACHE_ANSWER_OCTETS.
 ANSWER_OCTETS = 65_536
 CLASSES = {int(it): it for it in Class}
 # Makes a named tuple from all its fields at once, which is faster than its own constructor.
@@ -28,15 +29,15 @@ REQUEST, ANSWER, RRSET = map(structs.packer, (structs.Request, structs.Answer, s
 
 
 class AnswerSet(NamedTuple):
-    """An RRset of an answer: its owner in wire form, as it was received, its type, its remaining
-    TTL in seconds, its rdata and its class. The class is a number if no data of it are kept, as
-    `SharedCache.store` may return them.
+    """An RRset of an answer: its owner in wire form, as it was received; its type; its remaining
+    TTL in seconds; its rdata; and its class. The class is a plain number if it is not a `Class`,
+    which is possible only in an answer of `SharedCache.store`.
 
-    - `kind`: FRESH or STALE. For the SOA record of a negative answer (`is_negative`), which belongs
-      in the authority section of a message, it is NODATA or NXDOMAIN.
-    - `entry`: the entry that the RRset comes from, with its rank, its TTL as it was stored, and the
-      timestamp at which it was stored. In the answer that `SharedCache.store` returns, `number` and
-      `age` are 0.
+    - `kind`: FRESH or STALE or, for the SOA record of a negative answer (`is_negative`), NODATA or
+      NXDOMAIN. This SOA record belongs in the authority section of a message.
+    - `entry`: the entry that the RRset comes from, with the rank, the TTL and the timestamp with
+      which the entry was stored. In the answer that `SharedCache.store` returns, `number` and `age`
+      are 0.
 
     `compose_response` accepts an `AnswerSet` like a `ParsedSet`.
 
@@ -73,15 +74,15 @@ class AnswerSet(NamedTuple):
 class Answer(OfKind):
     """The answer to a question. Iterating over an answer iterates over its RRsets.
 
-    - `kind`: the kind for the name at the end of the CNAME chain.
+    - `kind`: the kind of the reply for the name at the end of the CNAME chain.
     - `rrsets`: the RRsets. The first ones are the CNAME RRsets of the chain.
     - `aliases`: the number of CNAME RRsets that lead to `end`.
     - `is_stale`: whether at least one of the RRsets is stale.
     - `is_endless`: whether the CNAME chain is a loop or has more than 16 records. `kind` is then
       MISS, and a query to a server will not help.
-    - `retry_from`: for FAILED the timestamp from which to try again, otherwise 0.
-    - `end`: the name at the end of the CNAME chain, in wire form and lower case. For MISS it is the
-      name to query for. For a delegation it is the zone.
+    - `retry_from`: for FAILED, the timestamp from which to try again; otherwise 0.
+    - `end`: the name at the end of the CNAME chain, in wire form and lower case. For MISS, this is
+      the name to query for. For a delegation, it is the zone.
 
     >>> from rrcache import SharedCache
     >>> with SharedCache() as cache:
@@ -120,7 +121,7 @@ def place_of_wire(name: str | bytes) -> tuple[int, int, Any]:
 
 
 def place_of(name: AnyName) -> tuple[int, int, Any]:
-    """Returns the same for a name in any form."""
+    """Returns the same as `place_of_wire`, for a name in any form."""
     if isinstance(name, Name):
         return addressof(name._made) + OCTETS_AT, name._made.size, name
     return place_of_wire(name)
@@ -139,13 +140,13 @@ class Work:
         self.answer = structs.Answer(addressof(self.buffer), room)
 
 
-# Objects that no call uses now. A call removes one and puts it back, as in asking.py. A call that
-# fails may drop its object.
+# The `Work` objects that no call uses now. A call takes an object from this list and puts it back,
+# as in asking.py. A call that fails may drop its object.
 _idle: list[Work] = []
 
 
 def taken() -> Work:
-    """Returns an object that no other call uses."""
+    """Returns a `Work` object that no other call uses."""
     try:
         return _idle.pop()
     except IndexError:
@@ -186,8 +187,8 @@ def answer_of(work: Work) -> Answer:
 
 def looked_up(look: Any, cache: c_void_p, name: AnyName, rtype: int, rclass: int, moment: int,
               mode: int, takes_glue: bool, with_dnames: bool) -> Answer:
-    """Makes a look-up call of the library, and returns the answer. If the buffer is too small, as
-    it may be for the caller's own RRsets, the call is repeated with a larger one."""
+    """Makes a look-up call of the library, and returns the answer. If the buffer is too small,
+    which is possible if the caller stored large RRsets, repeats the call with a larger buffer."""
     place, work = place_of(name), taken()
     try:
         REQUEST.pack_into(work.request, 0, place[0], place[1], rtype, rclass, moment, mode,

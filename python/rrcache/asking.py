@@ -32,14 +32,14 @@ class Work:
         self.buffer: Any = create_string_buffer(ROOM)
 
 
-# Objects that no call uses now. A call removes one and puts it back, so two calls never use the
-# same object, even if they are in different threads, or one is in a signal handler that interrupts
-# the other. Each list operation is atomic.
+# The `Work` objects that no call uses now. A call takes an object from this list and puts it back.
+# So two calls never use the same object, even if they run in different threads, or if one runs in a
+# signal handler that interrupts the other. Each list operation is atomic.
 _idle: list[Work] = []
 
 
 def taken() -> Work:
-    """Returns an object that no other call uses."""
+    """Returns a `Work` object that no other call uses."""
     try:
         return _idle.pop()
     except IndexError:
@@ -57,8 +57,8 @@ def data_of(octets: bytes, at: int) -> tuple[bytes, ...]:
     return tuple(data)
 
 
-# Makes a frozen dataclass by its dictionary. Its own constructor calls a function for each field,
-# and takes three times as long.
+# Makes an empty object of a frozen dataclass, whose fields are then set in its dictionary. The
+# constructor of such a class calls a function for each field, and takes three times as long.
 new = object.__new__
 
 
@@ -94,8 +94,8 @@ def room_for(told: structs.Told) -> Any:
 
 
 def told_offer(handle: structs.Offers, index: int) -> tuple[Name, Reply] | None:
-    """Returns an offer by its number: its name, and the reply that it gives. Returns None if there
-    is no such offer."""
+    """Returns the name of the offer with this number, and the reply that the offer gives. Returns
+    None if there is no such offer."""
     work, made = taken(), structs.Name()
     try:
         tell, buffer = library().rrc_tell_offer, work.buffer
@@ -112,8 +112,8 @@ def told_offer(handle: structs.Offers, index: int) -> tuple[Name, Reply] | None:
 
 def answered(export: str, handle: structs.Shelf, name: Name, moment: int, line: int, rtype: int,
              rclass: int, purpose: int, mode: int) -> Reply:
-    """Makes a look-up call, and returns its reply. If the buffer is too small, no event was
-    written, and the call is repeated with a larger one."""
+    """Makes a look-up call, and returns its reply. If the buffer is too small, the library has
+    written no event, and the call is repeated with a larger buffer."""
     work = taken()
     try:
         QUESTION.pack_into(work.question, 0, moment, line, rtype, rclass, purpose, mode)

@@ -19,15 +19,15 @@ NONE = Counts(0, 0, 0)
 
 
 class Cache(Closing):
-    """1 to 64 shelves, each with a Python lock. All data of a name are in one shelf. A hash under a
-    seed chooses the shelf; the seed is random unless the caller passes one. `capacity` is the
-    maximum number of keys in each shelf, and the other arguments are those of `Shelf`. Raises
-    `BadRules` or `BadSeed` if an argument is out of range. The cache keeps the folded form of
-    recently used names.
+    """1 to 64 shelves, each with a Python lock. All data of a name are in one shelf. A hash of the
+    name under a seed chooses the shelf; the seed is random unless the caller passes one. `parts` is
+    the number of shelves, `capacity` is the maximum number of keys in each shelf, and the other
+    arguments are those of `Shelf`. Raises `BadRules` or `BadSeed` if an argument is out of range.
+    The cache keeps the folded form of recently used names.
 
-    New programs use a `SharedCache`, in which threads look up at the same time, and which limits
-    its memory. A `Cache` returns a reply for each name of a CNAME chain, and has `line` and the
-    calls of a shelf.
+    New programs should use a `SharedCache`, in which several threads can look up names at the same
+    time, and which limits its memory. Unlike a `SharedCache`, a `Cache` returns a reply for each
+    name of a CNAME chain, and its calls accept a `line`.
 
     >>> with Cache(parts=4) as cache:
     ...     cache.ask("www.example.", 1, moment=1000).kind.name
@@ -49,8 +49,8 @@ class Cache(Closing):
     def ask(self, name: AnyName, rtype: int, moment: int, *,
             purpose: Purpose | int = Purpose.QUESTION, mode: Mode | int = Mode.NO_STALE,
             line: int = 0, rclass: Class | int = Class.IN) -> Reply:
-        """Looks up a name in its shelf, as `Shelf.ask` does. A name that `make_name` made under
-        another seed is allowed too: the cache uses its octets.
+        """Looks up a name in its shelf, as `Shelf.ask` does. A `Name` that `make_name` made under
+        another seed is allowed too: the cache uses only the octets of the `Name`.
 
         >>> with Cache() as cache:
         ...     reply = cache.ask("www.example.", 1, moment=1000, mode=Mode.STALE_IF_FAILED)
@@ -63,7 +63,7 @@ class Cache(Closing):
 
     def _has_failed(self, name: AnyName, rtype: int, moment: int, purpose: Purpose | int,
                     rclass: Class | int) -> bool:
-        """Whether the question has failed recently, and no fresh answer is cached."""
+        """Whether resolution of the question has failed recently, and no fresh answer is cached."""
         found, lock, shelf = self._found(name)
         with lock:
             return shelf.peek(found, rtype, moment, purpose, rclass=rclass).kind is Kind.FAILED
@@ -74,9 +74,10 @@ class Cache(Closing):
         """Follows the CNAME chain of a question (RFC 1034 section 3.6.2). Returns the reply for
         each name of the chain: a CNAME record for each alias, and then the reply for the end of the
         chain. `Shelf.ask_alias` chooses between a CNAME record and data of the type. There are at
-        most 16 replies. If the chain is a loop or longer than that, the last reply is a CNAME
-        record. Each reply is one event. If the question has failed recently, this counts for every
-        name of its chain. The arguments and the exceptions are those of `Shelf.ask`.
+        most 16 replies. If the chain is a loop or is longer, the last reply is a CNAME record. Each
+        reply is one event. With the mode STALE_IF_FAILED, a recent failure of the question makes
+        stale data acceptable for every name of its chain. The arguments and the exceptions are
+        those of `Shelf.ask`.
 
         >>> from rrcache import ParsedSet, compose_response
         >>> query = Query("www.example.", 1, id=0x1234)
@@ -123,9 +124,9 @@ class Cache(Closing):
                        limits: Limits = Limits(), line: int = 0, *, lowest_ttl: bool = False,
                        clears_denied: bool = False) -> Counts:
         """Stores the response of a zone's server to a query. The message is read once, without a
-        lock, as `read_response` does, and each shelf gets the relevant offers of its names. If the
-        call on one shelf fails, its exception is raised, and other shelves keep the data that they
-        stored. `counts` of the exception has the offers to all shelves.
+        lock, as `read_response` does, and each shelf gets the relevant offers for its names. If the
+        call on one shelf fails, the exception of this call is raised, and the other shelves keep
+        the data that they have stored. `counts` of the exception counts the offers to all shelves.
 
         >>> from rrcache import ParsedSet, compose_response
         >>> query = Query("www.example.", 1, id=0x1234)
@@ -143,8 +144,8 @@ class Cache(Closing):
 
     def offer_message_unchecked(self, message: bytes, zone: str | bytes, moment: int,
                                 limits: Limits = Limits(), line: int = 0) -> Counts:
-        """Stores all data of a response that are in bailiwick. Unlike `offer_response`, it does not
-        compare the response with a query. The caller compares them first.
+        """Stores all data of a response that are in bailiwick. Unlike `offer_response`, this call
+        does not compare the response with a query. The caller must do so first.
 
         >>> from rrcache import ParsedSet, compose_response
         >>> answer = [ParsedSet(it, 1, 60, [bytes(4)]) for it in ("a.example.", "b.example.")]
@@ -157,9 +158,10 @@ class Cache(Closing):
         return self._offer(offers, line)
 
     def sweep(self, moment: int) -> int:
-        """Sweeps each shelf, one after another, and returns the number of keys that were removed.
-        If the history is recorded, the closed chapters of each shelf are dropped. If the call on
-        one shelf fails, its exception is raised, and the shelves before it stay swept.
+        """Sweeps the shelves, one after another, and returns the number of keys that were removed.
+        If the history is being recorded, the closed chapters of each shelf are dropped. If the call
+        on one shelf fails, the exception of this call is raised, and the shelves before this one
+        stay swept.
 
         >>> with Cache() as cache:
         ...     cache.sweep(moment=1000)
@@ -173,11 +175,12 @@ class Cache(Closing):
         return removed
 
     def trim(self, moment: int, limit: int, most: int = KEYS_MOST) -> Trimmed:
-        """Limits the memory of the cache. Trims each shelf, one after another, to an equal share of
-        `limit`, and removes at most `most` keys from each (`Shelf.trim`). Returns the total. If the
-        history is recorded, the closed chapters of each shelf are dropped. Raises `BadRules` if
-        `limit` is less than the number of shelves, or `most` is 0. If the call on one shelf fails,
-        its exception is raised, and the shelves before it stay trimmed.
+        """Limits the memory of the cache. Trims the shelves, one after another, each to an equal
+        share of `limit`, and removes at most `most` keys from each shelf (`Shelf.trim`). Returns
+        the totals of all shelves. If the history is being recorded, the closed chapters of each
+        shelf are dropped. Raises `BadRules` if `limit` is less than the number of shelves, or if
+        `most` is 0. If the call on one shelf fails, the exception of this call is raised, and the
+        shelves before this one stay trimmed.
 
         >>> with Cache(parts=4) as cache:
         ...     cache.trim(moment=1000, limit=64_000_000)
@@ -192,7 +195,7 @@ class Cache(Closing):
         return Trimmed(removed, octets)
 
     def close(self) -> None:
-        """Frees the shelves."""
+        """Frees all shelves."""
         for lock, shelf in self._shelves:
             with lock:
                 shelf.close()

@@ -12,16 +12,18 @@ class Class(IntEnum):
 
 
 class Purpose(IntEnum):
-    """The purpose of an answer (RFC 2181 section 5.4.1): anything, for which additional data such
-    as glue are acceptable, or a client's question, which additional data must not answer."""
+    """The purpose of an answer (RFC 2181 section 5.4.1). ANYTHING: additional data, such as glue,
+    are acceptable. QUESTION: the answer is for a client's question, which additional data must not
+    answer."""
 
     ANYTHING = 1
     QUESTION = 2
 
 
 class Mode(IntEnum):
-    """When a stale answer is acceptable (RFC 8767 section 5): never; only if a failure is recent,
-    so that a miss would be FAILED; with or without a failure."""
+    """When a stale answer is acceptable (RFC 8767 section 5). NO_STALE: never. STALE_IF_FAILED:
+    only after a recent failure, so that a miss would be FAILED. STALE_NOW: with or without a
+    failure."""
 
     NO_STALE = 1
     STALE_IF_FAILED = 2
@@ -47,11 +49,12 @@ class Outcome(IntEnum):
 
 
 class Kind(IntEnum):
-    """The kind of a reply or of a stored entry. FRESH and STALE are an unexpired and an expired
+    """The kind of a reply or of a stored entry. FRESH and STALE mean an unexpired and an expired
     RRset; the entry of an RRset is always FRESH. NODATA means that the name has no data of the type
     (RFC 2308 section 2.2), and NXDOMAIN that the name does not exist (section 2.1). MISS means that
-    nothing may answer. FAILED means the same with a recent failure: it is unexpired, and was stored
-    later than all other entries for the question. A resolver then answers SERVFAIL (RFC 9520)."""
+    no entry may answer. FAILED means the same, and that there is a recent failure: this failure is
+    unexpired, and was stored later than all other entries for the question. A resolver then answers
+    SERVFAIL (RFC 9520)."""
 
     FRESH = 1
     STALE = 2
@@ -62,17 +65,17 @@ class Kind(IntEnum):
 
 
 class ResponseKind(IntEnum):
-    """The kind of a response for its question, when the servers of a zone were asked (RFC 1034
-    section 5.3.3).
+    """What a response from the servers of a zone means for its question (RFC 1034 section 5.3.3).
 
     - ANSWER: the response has data of the type.
-    - UNEQUAL_TTLS: the response has data of the type, which are left out, because their TTLs differ
-      and AA is clear.
+    - UNEQUAL_TTLS: the response has data of the type, but these data are left out, because their
+      TTLs differ and AA is clear.
     - NODATA: the name has no data of the type (RFC 2308 section 2.2).
     - NXDOMAIN: the name does not exist (RFC 2308 section 2.1).
-    - REFERRAL: the response names the servers of a zone below that contains the name.
-    - ALIAS: a CNAME chain leads to a name that is out of bailiwick, or of which the response has no
-      data.
+    - REFERRAL: the response names the servers of a zone that is below the zone whose servers were
+      asked, and that contains the name.
+    - ALIAS: a CNAME chain leads to a name that is out of bailiwick, or for which the response has
+      no data.
     - FAILURE: the RCODE is neither NOERROR nor NXDOMAIN.
     - UNUSABLE: none of these, such as a response with TC set.
     """
@@ -88,9 +91,9 @@ class ResponseKind(IntEnum):
 
 
 class MessageFault(IntEnum):
-    """The reason why octets cannot be read as a response.
+    """Why octets cannot be read as a response.
 
-    - NO_FAULT, which is false: they can be read.
+    - NO_FAULT, which is false: the octets can be read.
     - SHORT: the message ends too soon.
     - RESERVED_BITS: a length octet of a name has reserved bits.
     - POINTER: a compression pointer does not lead to an earlier offset.

@@ -1,5 +1,5 @@
 # SPDX-License-Identifier: MIT
-"""Messages from responses that a resolver parsed itself, for `read_response`."""
+"""Makes messages for `read_response` from responses that a resolver parsed itself."""
 from __future__ import annotations
 
 import struct
@@ -83,9 +83,9 @@ def put_message(query: Query, flags: int, sections: Iterable[Iterable[AnySet]]) 
 def compose_response(query: Query, answer: Iterable[AnySet] = (),
                      authority: Iterable[AnySet] = (), additional: Iterable[AnySet] = (), *,
                      rcode: int = 0, aa: bool = False, tc: bool = False, ra: bool = False) -> bytes:
-    """Makes a message from a response that a resolver parsed itself: the RRsets of its three
-    sections, its RCODE and three of its flags. Pass the message to `read_response` with the same
-    query, like any other response.
+    """Makes a message from a response that a resolver parsed itself: from the RRsets of the three
+    sections of the response, its RCODE, and three of its flags. Pass the message to `read_response`
+    with the same query, like any other response.
 
     The caller first compares the response with its query (RFC 5452 section 9.1): QR, the opcode,
     the identifier and the question. The message has the identifier and question of the query, even
@@ -95,8 +95,8 @@ def compose_response(query: Query, answer: Iterable[AnySet] = (),
     Raises `BadChoice` if the RCODE is above 15, `BadType` if a type or a class is 0, `BadName` if
     octets are not the wire form of a name, `WrongBody` if a set has no data, and `ValueError` if a
     number is too large for its field. Also raises `ValueError` if the message would have more than
-    65,535 octets. The message may be too large although the response was not, because only owners
-    are compressed in the message.
+    65,535 octets. The message may be too large even if the response was not, because only the
+    owners are compressed in the message.
 
     >>> from rrcache import Parts, Query, read_response
     >>> query, parts = Query("www.example.", 1, id=0x1234), Parts(1, seed=bytes(range(16)))

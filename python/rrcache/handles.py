@@ -15,9 +15,9 @@ T = TypeVar("T", bound=Structure)
 
 
 class Handle(c_void_p):
-    """A pointer to a `struct rrcache`, which is closed when the last reference to this object is
-    gone. Each call holds a reference, so no thread closes a cache while another thread is in a
-    call."""
+    """A pointer to a `struct rrcache`. The cache is closed when the last reference to this object
+    is gone. Each call holds such a reference, so no thread closes a cache while another thread is
+    in a call on the cache."""
 
     close: Any = None
 
@@ -42,19 +42,19 @@ def done(status: int, counts: Counts | None = None, swept: Swept | None = None) 
 
 
 def place_in(octets: bytes) -> tuple[int, int]:
-    """Returns the address of octets, and their number."""
+    """Returns the address of octets, and the number of these octets."""
     return cast(c_char_p(octets), c_void_p).value or 0, len(octets)
 
 
 def handed(kind: type[T], values: tuple[Any, ...]) -> T:
-    """Returns a struct with these values, as the argument of a call. For octets it has their
-    address and size, so the caller keeps the values until the call returns."""
+    """Returns a struct with these values, as the argument of a call. For octets, the struct has
+    their address and size, so the caller must keep the values until the call returns."""
     places = (place_in(it) if isinstance(it, bytes) else (it,) for it in values)
     return structs.fill(kind(), *itertools.chain.from_iterable(places))
 
 
 def opened(config: structs.Config) -> Handle:
-    """Opens a cache."""
+    """Opens a cache, and returns its handle."""
     handle = Handle()
     done(library().rrcache_open(byref(handle), config))
     handle.close = library().rrcache_close

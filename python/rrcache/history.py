@@ -21,12 +21,13 @@ KINDS = {"fresh": Kind.FRESH, "stale": Kind.STALE, "nodata": Kind.NODATA,
 SLOT = re.compile("(?:(failed)?(0|[1-9][0-9]*)|nx)(?:/(0|[1-9][0-9]*))?")
 NUMBER = re.compile("0|[1-9][0-9]{0,19}")
 ITEM = re.compile("-|(?:[0-9a-f]{2})+")
-# The ranges of the number of keys, of the events of a chapter, and of max-stale in seconds.
+# The ranges of the number of keys of a shelf, of the number of events of a chapter, and of
+# max-stale in seconds.
 RANGES = {"capacity": (1, 65_536), "chapter": (1, 1_048_576), "max_stale": (0, 604_800)}
 
 
 class ArchiveFault(ValueError):
-    """A text is not an archive. `line` is the number of the first wrong line, counted from 0.
+    """The text is not an archive. `line` is the number of the first wrong line, counted from 0.
 
     >>> try:
     ...     read_archive("chapter 1 0 1024 4096\\n")
@@ -54,7 +55,8 @@ class Slot(IntEnum):
 
 @dataclass(frozen=True)
 class Key:
-    """A key of the cache: a name in lower case, a slot, its type, which is 0 for NX, and the class.
+    """A key of the cache: a name in lower case, a slot, the type of the slot (0 for NX), and the
+    class.
 
     >>> Key("www.example.", Slot.NX).rtype
     0
@@ -68,8 +70,8 @@ class Key:
 
 @dataclass(frozen=True)
 class RRset:
-    """All records of one owner, class and type. The owner has the spelling in which it was
-    received.
+    """All records of one owner, class and type, as an archive lists them. The owner is spelled as
+    it was received.
 
     >>> RRset(Trust.AUTHORITY, 60, "www.Example.", (bytes([192, 0, 2, 1]),)).data[0].hex()
     'c0000201'
@@ -111,8 +113,8 @@ Body = RRset | Negative | Failure
 
 @dataclass(frozen=True)
 class Entry:
-    """The entry of a key when a chapter began, with the number and timestamp of the event that
-    stored it.
+    """The entry that a key had when a chapter began, with the number and the timestamp of the event
+    that stored the entry.
 
     >>> Entry(3, 1000, Key("a.", Slot.FAILED, 1), Failure(30)).body.ttl
     30
@@ -126,8 +128,8 @@ class Entry:
 
 @dataclass(frozen=True)
 class Offer:
-    """An offer, its outcome, and the key that it evicted, if any. `line` and `place` are numbers
-    that the caller chose for the call.
+    """An offer, its outcome, and the key that the offer evicted, if any. `line` and `place` are
+    numbers that the caller chose for the call.
 
     >>> Offer(7, 0, 1000, Key("a.", Slot.FAILED, 1), Failure(30), Outcome.KEPT).evicted is None
     True
@@ -164,7 +166,7 @@ class Ask:
 
 @dataclass(frozen=True)
 class Sweep:
-    """A sweep, and the keys that it removed, in the canonical order of keys.
+    """A sweep, and the keys that the sweep removed, in canonical order.
 
     >>> Sweep(7, 2, 1000, (Key("a.", Slot.FAILED, 1),)).removed[0].name
     'a.'
@@ -181,9 +183,10 @@ Event = Offer | Ask | Sweep
 
 @dataclass(frozen=True)
 class Chapter:
-    """A chapter of a history: its number, the number of its first event, and the rules of the
-    shelf. `entries` are the entries when the chapter began, the most recently used first. `events`
-    are its events, the oldest first. `text` is the chapter as text.
+    """A chapter, which is a segment of a history: its number, the number of its first event
+    (`first`), and the rules of the shelf. `entries` are the entries that the shelf had when the
+    chapter began, the most recently used first. `events` are the events of the chapter, the oldest
+    first. `text` is the chapter as text.
 
     >>> [chapter] = read_archive("chapter 1 0 1024 4096 86400\\nsweep 7 0 1000\\n")
     >>> chapter.capacity, len(chapter.entries), chapter.events[0].moment
@@ -204,7 +207,7 @@ class Chapter:
 
 
 class _NoLine(ValueError):
-    """A text is not a line of an archive."""
+    """The text is not a line of an archive."""
 
 
 def _none() -> NoReturn:
@@ -212,7 +215,7 @@ def _none() -> NoReturn:
 
 
 class _Fields:
-    """The fields of a line, which are read one after another."""
+    """Reads the fields of a line, one after another."""
 
     def __init__(self, text: str) -> None:
         self._left = text.split(" ")[::-1]
@@ -279,12 +282,12 @@ class _Fields:
 
 
 def _number(text: str, end: int) -> int:
-    """A number below a limit."""
+    """Returns the number in a text, which must be below a limit."""
     return int(text) if NUMBER.fullmatch(text) and int(text) < end else _none()
 
 
 def _class(text: str) -> Class | int:
-    """A class that is not IN."""
+    """Returns the class in a text, which must not be IN."""
     number = _number(text, 2 ** 16)
     if number == Class.IN:
         _none()
@@ -339,7 +342,7 @@ EVENTS: dict[str, Callable[[_Fields], Event]] = {"offer": _offer, "ask": _ask, "
 
 
 class _Draft:
-    """A chapter whose first lines were read."""
+    """A chapter of which the first lines have been read."""
 
     def __init__(self, fields: _Fields) -> None:
         self.numbers = [fields.number() for _ in range(5)]
@@ -375,9 +378,9 @@ def _add(drafts: list[_Draft], text: str) -> None:
 
 
 def read_archive(text: str) -> list[Chapter]:
-    """Returns the chapters of an archive (docs/FORMATS.md). Does not check whether they are a legal
-    history: `rrcache --audit-history` does. Raises `ArchiveFault` with the first wrong line if the
-    text is not an archive.
+    """Returns the chapters of an archive (docs/FORMATS.md). Does not check whether the chapters
+    follow the rules: `rrcache --audit-history` does. If the text is not an archive, raises
+    `ArchiveFault` with the number of the first wrong line.
 
     >>> [chapter] = read_archive("chapter 1 0 1024 4096 86400\\n"
     ...                          "ask 7 0 1000 www.example. 1 answer none miss\\n")

@@ -1,6 +1,6 @@
 # SPDX-License-Identifier: MIT
-"""The library for C, through ctypes: its file, the arguments of its functions, and calls without a
-shelf."""
+"""The library for C, through ctypes: its file, the arguments of its functions, and the calls that
+need no shelf."""
 from __future__ import annotations
 
 import functools
@@ -91,9 +91,9 @@ RESULTS: dict[str, Any] = {"rrcache_close": None, "rrcache_next": c_bool}
 
 
 def path() -> str:
-    """Returns the path of the library: the path in the environment; otherwise the file next to
-    these modules, if they are installed; otherwise the file in the repository that contains them;
-    otherwise a name for the system's loader."""
+    """Returns the path of the library: the path in the environment variable RRCACHE_LIBRARY;
+    otherwise the file next to these modules, if there is one; otherwise the file in the repository
+    that contains these modules; otherwise a name for the system's loader."""
     folder = Path(__file__).resolve().parent
     places = folder / "librrcache.so", folder.parents[1] / "build" / "librrcache.so"
     found = next((str(it) for it in places if it.exists()), SONAME)
@@ -101,13 +101,13 @@ def path() -> str:
 
 
 def parts_of_version(number: int) -> tuple[int, int, int]:
-    """Returns the major, minor and patch version."""
+    """Returns the major, minor and patch version in a version number."""
     return number >> 16, number >> 8 & 255, number & 255
 
 
 def loaded_from(place: str) -> CDLL:
-    """Loads the library from a path. Raises ImportError if it cannot be loaded or has another
-    version."""
+    """Loads the library from a path. Raises ImportError if the library cannot be loaded or its
+    version is not supported."""
     try:
         loaded = CDLL(place)
         number = loaded.rrc_version()
@@ -132,26 +132,27 @@ def library() -> CDLL:
 
 
 def call(name: str, *arguments: Any) -> None:
-    """Makes a call, and raises an exception if it returns an error."""
+    """Makes a call, and raises an exception if the call returns an error."""
     if status := getattr(library(), name)(*arguments):
         raise refusal(status)
 
 
 def told(name: str, number: type[c_uint32] | type[c_uint64], *arguments: Any) -> int:
-    """Makes a call whose last argument is an output, and returns the number that it writes."""
+    """Makes a call whose last argument is an output, and returns the number that the call
+    writes."""
     out = number()
     call(name, *arguments, byref(out))
     return int(out.value)
 
 
 def sized(octets: bytes) -> tuple[bytes, int]:
-    """Returns octets and their number, as arguments of a call."""
+    """Returns octets and the number of them, as arguments of a call."""
     return bytes(octets), len(octets)
 
 
 def seed_of(octets: bytes) -> bytes:
-    """Returns a seed for a struct. Raises `BadSeed` if it does not have 16 octets. The library
-    checks that not all octets are 0."""
+    """Returns a seed for a struct. Raises `BadSeed` if the seed does not have 16 octets. The
+    library checks that not all of them are 0."""
     if len(octets) != structs.SEED_OCTETS:
         raise refusal(Status.BAD_SEED)
     return bytes(octets)
@@ -174,8 +175,8 @@ class Closing:
 
 
 class Held(Closing):
-    """An object of the library behind a handle. The handle is initialized to zeros, and then holds
-    nothing."""
+    """An object of the library behind a handle. The handle is initialized to zeros, which means
+    that it holds nothing."""
 
     _kind: ClassVar[type[Structure]]
     _freed_by: ClassVar[str]
@@ -184,7 +185,7 @@ class Held(Closing):
         self._handle: Any = self._kind()
 
     def close(self) -> None:
-        """Frees the object. Later calls on it fail, except `close`."""
+        """Frees the object. Later calls on the object fail, except `close`."""
         if self._handle.is_live:
             call(self._freed_by, self._handle)
 
@@ -193,13 +194,14 @@ class Held(Closing):
             self.close()
 
     def __reduce__(self) -> NoReturn:
-        """Refuses to be copied and pickled: the end of a copy would free the object of both."""
+        """Refuses to be copied or pickled, because deleting the copy would also free the object of
+        the original."""
         raise TypeError(f"cannot copy or pickle a {type(self).__name__}")
 
 
 def fault(message: bytes) -> MessageFault:
-    """Returns the first fault of the octets of a response, or NO_FAULT (0, which is false) if there
-    is none.
+    """Returns the first reason why octets cannot be read as a response, or NO_FAULT (0, which is
+    false) if they can.
 
     >>> fault(b"").name
     'SHORT'

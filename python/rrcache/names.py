@@ -13,7 +13,7 @@ ESCAPE = re.compile(rb"\\([0-9]{3}|.)", re.S)
 
 
 class NameFault(ValueError):
-    """A text is not a name.
+    """The text is not a name.
 
     >>> try:
     ...     to_wire("www..example.")
@@ -34,7 +34,8 @@ def octet_of(escape: re.Match[bytes]) -> bytes:
 
 
 def labels_of(text: bytes) -> list[bytes]:
-    """Returns the labels of a text, of any size, without the root label."""
+    """Returns the labels of a name as text, without the root label. The labels may have any
+    size."""
     if text == b".":
         return []
     if not NAME.fullmatch(text):
@@ -43,13 +44,13 @@ def labels_of(text: bytes) -> list[bytes]:
 
 
 def wire_of(labels: list[bytes]) -> bytes:
-    """Returns the wire form of labels, with the root label at the end."""
+    """Returns the wire form of a name with these labels, with the root label at the end."""
     return b"".join(bytes([len(it)]) + it for it in labels) + b"\0"
 
 
 def to_wire(name: str | bytes) -> bytes:
     """Returns the wire form of a name. In text, the last dot is optional, and each character is one
-    octet. Octets are returned unchanged: they must be in wire form already.
+    octet. A name in octets is returned unchanged: it must be in wire form already.
 
     >>> to_wire("www.example.")
     b'\\x03www\\x07example\\x00'

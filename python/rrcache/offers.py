@@ -1,5 +1,5 @@
 # SPDX-License-Identifier: MIT
-"""The offers of a message, which is read once for several shelves."""
+"""Reads a message once for several shelves, and lists its offers."""
 from __future__ import annotations
 
 import itertools
@@ -20,8 +20,8 @@ from .replies import (BLOCK_OCTETS, ENTRY_OCTETS, INLINE_OCTETS, SHARED_OCTETS, 
 
 class Summary(NamedTuple):
     """What a response says in addition to its offers: its kind; the RCODE of its header, without
-    the upper bits in an OPT record; AA and TC; and in `name` the zone of a referral or the target
-    of an alias, otherwise None."""
+    the upper bits that an OPT record may have; AA and TC; and `name`, which is the zone of a
+    referral or the target of an alias, and otherwise None."""
 
     kind: ResponseKind
     rcode: int
@@ -31,20 +31,21 @@ class Summary(NamedTuple):
 
 
 def summary_of(said: structs.Summary, made: structs.Name) -> Summary:
-    """Returns the summary that the library wrote, with the name, if it made one."""
+    """Returns the summary that the library wrote, with the name, if the library made one."""
     return Summary(ResponseKind(said.kind), said.rcode, said.aa, said.tc,
                    Name(made) if made.size else None)
 
 
 class Offers(Held):
-    """The offers of a response from a zone's servers, which `read_response` reads once for all
-    shelves. `Shelf.offer_read` offers the share of one part. One thread at a time may use the
-    object. A `with` statement frees it at its end; later calls raise `NoOffers`.
+    """The offers of a response from a zone's servers. `read_response` reads them once for all
+    shelves, and `Shelf.offer_read` offers those of one part (shelf). One thread at a time may use
+    the object. A `with` statement frees the object at its end. Later calls raise `NoOffers`.
 
     `concerned` lists the parts, counted from 0, that have offers. Iterating over the object returns
     each offer, in the order of the message, as a name and a reply. `part` of the name is the part
-    of the offer. The reply is the one that the offer would give at the timestamp of the response,
-    with its whole TTL left, even if no shelf will store the offer.
+    to which the offer belongs. The reply is the one that the offer would give at the timestamp of
+    the response, with the whole TTL remaining. It is returned even if no shelf will store the
+    offer.
     """
 
     _kind, _freed_by = structs.Offers, "rrc_free_offers"
@@ -85,16 +86,16 @@ class Offers(Held):
 
 
 def room(octets: bytes) -> int:
-    """Returns the octets of memory that a name or rdata use."""
+    """Returns the number of octets of memory that a name or rdata use."""
     size = len(octets)
     return VALUE_OCTETS + (0 if size <= INLINE_OCTETS else BLOCK_OCTETS + size)
 
 
 def octets_of(name: Name, reply: Reply) -> int:
-    """Returns the octets of memory that an offer uses if it is stored as a key of its own. The
-    arguments are those that iterating over `Offers` returns. If an offer uses more octets than the
-    limit to which a shelf is trimmed, it would evict all other keys. A caller that limits memory
-    leaves out such an offer, and passes the others to `Shelf.offer_one`.
+    """Returns the number of octets of memory that an offer uses if the offer is stored under a new
+    key. The arguments are those that iterating over `Offers` returns. An offer that uses more
+    octets than the limit to which a shelf is trimmed would evict all other keys. A caller that
+    limits memory leaves out such an offer, and passes the other offers to `Shelf.offer_one`.
 
     >>> from rrcache import make_name
     >>> name = make_name("www.example.", Parts(1, seed=bytes(range(16))))
@@ -125,18 +126,18 @@ def read_response(message: bytes, zone: str | bytes, query: Query, parts: Parts,
                   limits: Limits = Limits(), *, lowest_ttl: bool = False,
                   clears_denied: bool = False) -> Offers:
     """Reads the response of a zone's server to a query, once for all `parts`, and returns the
-    offers that are relevant to the query. The caller checks the address and port that the response
-    came from.
+    offers that are relevant to the query. The caller must check the address and port that the
+    response came from.
 
-    With `lowest_ttl`, an RRset with different TTLs is offered with the lowest of them if AA is
-    clear. Otherwise such an RRset is left out (RFC 2181 section 5.2). With `clears_denied`, an
-    authoritative NXDOMAIN clears the data of the denied name for the types A, AAAA and CNAME and
-    for the type of the question.
+    With `lowest_ttl`, an RRset with different TTLs is offered with the lowest of them even if AA is
+    clear. Without `lowest_ttl`, such an RRset is left out if AA is clear (RFC 2181 section 5.2).
+    With `clears_denied`, an authoritative NXDOMAIN clears the data of the denied name for the types
+    A, AAAA and CNAME and for the type of the question.
 
-    Raises `OtherQuery` if the octets have another identifier or question, regardless of what
-    follows: the caller then drops them and keeps waiting. Raises `BadMessage` only if the octets
-    answer the query but cannot be read, and `NoQuestion` if the response is a header without a
-    question.
+    Raises `OtherQuery` if the octets have another identifier or question, regardless of the octets
+    after the question: the caller then drops the response and keeps waiting. Raises `BadMessage`
+    only if the octets answer the query but cannot be read, and `NoQuestion` if the response is a
+    header without a question.
 
     >>> import os
     >>> message = bytes([0x12, 0x34, 0x84, 0, 0, 1, 0, 0, 0, 0, 0, 0])
@@ -154,7 +155,8 @@ def read_response(message: bytes, zone: str | bytes, query: Query, parts: Parts,
 def read_message_unchecked(message: bytes, zone: str | bytes, parts: Parts, moment: int,
                            limits: Limits = Limits()) -> Offers:
     """Reads a response, and returns the offers of all its data that are in bailiwick. Unlike
-    `read_response`, it does not compare the response with a query. The caller compares them first.
+    `read_response`, this function does not compare the response with a query. The caller must do so
+    first.
 
     >>> from rrcache import ParsedSet, compose_response
     >>> query, parts = Query("www.example.", 1, id=0), Parts(1, seed=bytes(range(16)))

@@ -1,6 +1,6 @@
 # SPDX-License-Identifier: MIT
-"""Names in the library's form, which a caller makes once for each name, and the division of names
-among shelves."""
+"""Names in the form that the library uses, which a caller makes once for each name, and the
+division of names among shelves."""
 from __future__ import annotations
 
 import functools
@@ -13,13 +13,13 @@ from .names import to_text, to_wire
 
 # The offset of a name's octets in `struct rrcache_name`.
 OCTETS_AT = structs.Name.octets.offset
-# How many names a shelf or a cache keeps in folded form, of about 500 octets each.
+# How many names a shelf or a cache keeps in the library's form. Each takes about 500 octets.
 NAMES_MOST = 4096
 
 
 class Parts(NamedTuple):
     """How names are divided among shelves: `count` is the number of shelves, 1 to 64, and `seed` is
-    the seed of all of them: 16 secret random octets, not all 0."""
+    the seed that all shelves share: 16 secret random octets, not all 0."""
 
     count: int  # type: ignore[assignment]  # for which the method of tuples goes
     seed: bytes
@@ -31,8 +31,8 @@ class Parts(NamedTuple):
 
 @final
 class Name:
-    """A name that was folded and hashed under a seed (`make_name`), for any number of calls. Any
-    number of threads may use it at once."""
+    """A name that `make_name` converted to lower case and hashed under a seed, for any number of
+    calls. Any number of threads may use the object at once."""
 
     __slots__ = ("_made", "part")
 
@@ -58,15 +58,16 @@ AnyName = str | bytes | Name
 
 
 def wire_form(name: AnyName) -> bytes:
-    """Returns the wire form of a name in any form."""
+    """Returns the wire form of a name that was passed in any form."""
     return name.octets if isinstance(name, Name) else to_wire(name)
 
 
 def make_name(name: str | bytes, parts: Parts) -> Name:
-    """Folds and hashes a name, once for any number of calls. `part` of the result is the number of
-    the shelf that holds all data of the name, counted from 0. Raises `NameFault` if a text is not a
-    name, `BadName` if octets are not the wire form of a name, `BadRules` if `parts.count` is out of
-    range, and `BadSeed` if the seed is all 0 or does not have 16 octets.
+    """Converts a name to lower case and hashes it, once for any number of calls. `part` of the
+    result is the number of the shelf that holds all data of the name, counted from 0. Raises
+    `NameFault` if text is not a name, `BadName` if octets are not the wire form of a name,
+    `BadRules` if `parts.count` is out of range, and `BadSeed` if the seed is all 0 or does not have
+    16 octets.
 
     >>> import os
     >>> parts = Parts(16, seed=os.urandom(16))

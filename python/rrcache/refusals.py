@@ -1,5 +1,5 @@
 # SPDX-License-Identifier: MIT
-"""The exceptions that calls raise: one for each error status of the library for C."""
+"""The exceptions that calls raise. There is one for each error status of the library for C."""
 from __future__ import annotations
 
 from enum import IntEnum
@@ -44,12 +44,13 @@ class Status(IntEnum):
 
 
 class Refused(Exception):
-    """A call failed, and left the contents and the history unchanged. There are two exceptions: a
-    call that stores a message may have made some of its offers, which `counts` has, and a sweep may
-    have made some of its steps, which `swept` has. For all other calls both are None.
+    """The base class of all exceptions for a failed call. The call left the contents and the
+    history unchanged, except in two cases. A call that stores a message may have made some of its
+    offers, which `counts` counts. A sweep may have made some of its steps, whose result `swept`
+    has. For all other calls, `counts` and `swept` are None.
 
-    A library of a later minor version may return a status that this package does not know. Then
-    `Refused` itself is raised, and `status` is a number."""
+    A library of a later minor version may return a status that this package does not know. In that
+    case, `Refused` itself is raised, and `status` is a number."""
 
     status: Status
     reason: str = "no such status"
@@ -78,7 +79,7 @@ class Memory(Refused):
 
 
 class HistoryFull(Refused):
-    """Event numbers or chapter numbers are used up: the next one would be 2^62."""
+    """The event numbers or chapter numbers are used up: the next number would be 2^62."""
 
     status, reason = Status.HISTORY_FULL, "the event numbers are used up"
 
@@ -90,8 +91,9 @@ class MomentTooLarge(Refused):
 
 
 class BadRules(Refused):
-    """One of these is out of range: a capacity, a chapter size, a max-stale, the number of parts,
-    shelves, readers, octets or keys, a part, a shelf, or the limits of a sweep or a trim."""
+    """One of these numbers is out of range: a capacity, a chapter size, a max-stale, a number of
+    parts, shelves, readers, octets or keys, the number of a part or shelf, or a limit of a sweep or
+    a trim."""
 
     status, reason = Status.BAD_RULES, "a number in the rules is out of range"
 
@@ -128,8 +130,8 @@ class BadChoice(Refused):
 
 
 class BadType(Refused):
-    """In an offer: data of this type are not kept in this class. In a question: its class is not
-    kept, or its type is 0."""
+    """In an offer: data of this type are not supported in this class. In a question: the class is
+    not supported, or the type is 0."""
 
     status, reason = Status.BAD_TYPE, "this type or class is not supported"
 
@@ -141,19 +143,19 @@ class BadData(Refused):
 
 
 class WrongBody(Refused):
-    """An RRset has no data, or a TTL is above 2^31 - 1."""
+    """The RRset to store has no data, or a TTL is above 2^31 - 1."""
 
     status, reason = Status.WRONG_BODY, "the RRset has no data, or its TTL is too large"
 
 
 class Wide(Refused):
-    """The rdata of a record of the reply have more than 65,535 octets."""
+    """The rdata of a record in the reply have more than 65,535 octets."""
 
     status, reason = Status.WIDE, "the reply has too many octets of rdata"
 
 
 class NoOffers(Refused):
-    """The offers were freed, or there is no offer with this number."""
+    """The offers have been freed, or there is no offer with this number."""
 
     status, reason = Status.NO_OFFERS, "the handle holds no offers, or none with this number"
 
@@ -165,26 +167,27 @@ class HasOffers(Refused):
 
 
 class OtherQuery(Refused):
-    """The identifier or the question of the octets is not that of the query, or the octets are
-    themselves a query."""
+    """The octets do not have the identifier or the question of the query, or they are themselves a
+    query."""
 
     status, reason = Status.OTHER_QUERY, "the octets do not answer the query"
 
 
 class NoChapters(Refused):
-    """The chapters were freed."""
+    """The chapters have been freed."""
 
     status, reason = Status.NO_CHAPTERS, "the handle holds no chapters"
 
 
 class HasChapters(Refused):
-    """The handle already holds chapters. A dump raises this while histories are recorded."""
+    """The handle already holds chapters. A dump raises this exception while histories are being
+    recorded."""
 
     status, reason = Status.HAS_CHAPTERS, "the handle already holds chapters"
 
 
 class NoLine(Refused):
-    """There is no such chapter, or it has no such line."""
+    """There is no such chapter, or the chapter has no such line."""
 
     status, reason = Status.NO_LINE, "there is no such line"
 

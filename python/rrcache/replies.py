@@ -1,5 +1,5 @@
 # SPDX-License-Identifier: MIT
-"""Arguments and results of calls. Timestamps (`moment`) and TTLs are in seconds."""
+"""The arguments and results of calls. Timestamps (`moment`) and TTLs are in seconds."""
 from __future__ import annotations
 
 from dataclasses import dataclass, field
@@ -18,7 +18,7 @@ class Counts(NamedTuple):
     outranked: int
 
     def plus(self, other: Counts) -> Counts:
-        """Returns the sum of both.
+        """Returns the sums of both.
 
         >>> Counts(2, 0, 1).plus(Counts(1, 1, 0))
         Counts(kept=3, cleared=1, outranked=1)
@@ -27,10 +27,10 @@ class Counts(NamedTuple):
                       self.outranked + other.outranked)
 
 
-# The numbers of octets that `Sizes.octets` adds up: for a key, with its places in the LRU order,
-# the map and the expiry queue; for a name or rdata, and the size up to which they are inline; for
-# the separate block of a larger name or larger rdata; and for the reference count of a name or of
-# the data of a key.
+# The numbers of octets that `Sizes.octets` adds up. ENTRY_OCTETS is for a key, with its places in
+# the LRU order, the map and the expiry queue. VALUE_OCTETS is for a name or rdata, which are stored
+# inline up to a size of INLINE_OCTETS. BLOCK_OCTETS is for the separate block of a larger name or
+# larger rdata. SHARED_OCTETS is for the reference count of a name or of the data of a key.
 ENTRY_OCTETS = 160
 VALUE_OCTETS = 48
 INLINE_OCTETS = 32
@@ -39,12 +39,13 @@ SHARED_OCTETS = 32
 
 
 class Sizes(NamedTuple):
-    """The sizes of a shelf: the number of keys; the number of recorded events in the open chapter,
-    and of closed chapters, both 0 while nothing is recorded; and the approximate octets of memory
-    that the keys use. A key uses `ENTRY_OCTETS` and
+    """The sizes of a shelf: the number of keys (`keys`); the number of recorded events in the open
+    chapter (`events`) and the number of closed chapters (`chapters`), both 0 while nothing is being
+    recorded; and approximately how many octets of memory the keys use (`octets`). A key uses
+    `ENTRY_OCTETS` and in addition octets for
 
     - its name;
-    - for an RRset, `SHARED_OCTETS` and the rdata of each record, and if there are several records
+    - for an RRset, `SHARED_OCTETS` and the rdata of each record and, if there are several records,
       also `VALUE_OCTETS` and `BLOCK_OCTETS`;
     - for a negative answer, `SHARED_OCTETS` and the rdata of its SOA record;
     - the owner of these records, unless it is spelled like the name of the key.
@@ -60,7 +61,7 @@ class Sizes(NamedTuple):
 
 class Swept(NamedTuple):
     """The number of keys that a sweep removed, and whether no key is left that is fully expired at
-    its timestamp."""
+    the timestamp of the sweep."""
 
     removed: int
     is_done: bool
@@ -80,13 +81,14 @@ class StoredEntry:
 
     - `kind`: FRESH for an RRset, NODATA, NXDOMAIN, or FAILED for a failure.
     - `trust`: the rank, or None for a failure.
-    - `ttl`: the TTL as it was stored.
+    - `ttl`: the TTL with which the entry was stored.
     - `moment`: the timestamp at which the entry was stored. To prefetch, a resolver renews an entry
-      that is asked for shortly before `ttl` seconds have passed since `moment`.
-    - `number`: the number of the event that stored the entry; no other entry of the shelf has it.
-    - `age`: the number of uses of keys after the last use of this key. An ask uses the entry that
-      answers it, unless the entry is already at the front of the LRU order (age 0). A peek uses no
-      entry.
+      if a client asks for it shortly before `ttl` seconds have passed since `moment`.
+    - `number`: the number of the event that stored the entry. No other entry of the shelf has this
+      number.
+    - `age`: the number of uses of keys of the shelf since the last use of this key. An ask counts
+      as a use of the entry that answers the ask, unless the entry is already at the front of the
+      LRU order (age 0). A peek counts as no use.
 
     >>> entry = StoredEntry(Kind.FRESH, Trust.AUTHORITY, ttl=60, moment=1000, number=0, age=0)
     >>> entry.moment + entry.ttl
@@ -103,7 +105,7 @@ class StoredEntry:
 
 class Stored(NamedTuple):
     """The entries of a name, a class and a type: the RRset or NODATA (`kind` FRESH or NODATA), the
-    NXDOMAIN of the name, and the failure. Each is None if nothing is stored."""
+    NXDOMAIN of the name, and the failure. Each of them is None if nothing is stored."""
 
     set: StoredEntry | None
     nxdomain: StoredEntry | None
@@ -111,8 +113,8 @@ class Stored(NamedTuple):
 
 
 class Query(NamedTuple):
-    """A query that was sent: its name, type, identifier and class, and whether the response has to
-    repeat the letters of the name in the same case (`with_case`).
+    """A query that a resolver sent: its name, type, identifier and class, and whether the response
+    has to repeat the letters of the name in the same case (`with_case`).
 
     >>> Query("wWw.eXample.", 1, id=0x1234, with_case=True).rclass.name
     'IN'
@@ -126,9 +128,10 @@ class Query(NamedTuple):
 
 
 class Limits(NamedTuple):
-    """The limits of how long data of a response may be cached, in seconds: the maximum TTL (1 to
-    604,800, RFC 8767 section 4), the maximum TTL of a negative answer (1 to 604,800, RFC 2308
-    section 5), and the TTL of a failure (1 to 300, RFC 9520 section 3.2).
+    """The limits on how long data of a response may be cached, in seconds: the maximum TTL (`cap`,
+    1 to 604,800, RFC 8767 section 4), the maximum TTL of a negative answer (`negative_cap`, 1 to
+    604,800, RFC 2308 section 5), and the TTL of a failure (`recheck`, 1 to 300, RFC 9520 section
+    3.2).
 
     >>> Limits(cap=86_400).negative_cap
     10800
@@ -140,7 +143,7 @@ class Limits(NamedTuple):
 
 
 class OfKind:
-    """What the kind of a reply or of an answer says about it."""
+    """What the kind of a reply says about the reply, and the kind of an answer about the answer."""
 
     kind: Kind
 
@@ -151,7 +154,7 @@ class OfKind:
 
     @property
     def is_negative(self) -> bool:
-        """Whether this is a negative answer: NODATA or NXDOMAIN (RFC 2308)."""
+        """Whether the kind is that of a negative answer: NODATA or NXDOMAIN (RFC 2308)."""
         return self.kind in (Kind.NODATA, Kind.NXDOMAIN)
 
 
@@ -160,14 +163,15 @@ class Reply(OfKind):
     """The reply of a shelf. Replies are equal if all their fields except `entry` are equal.
 
     - `kind`: the kind of the reply.
-    - `left`: for how many seconds the reply may be used: the remaining TTL, 30 for STALE, 0 for a
-      miss.
+    - `left`: for how many seconds the reply may be used: the remaining TTL, or 30 for STALE, or 0
+      for a miss.
     - `owner`: the owner in wire form, as it was received.
     - `data`: the rdata of the RRset, or of the SOA record of a negative answer.
-    - `retry_from`: for FAILED the timestamp from which to try again, otherwise 0.
+    - `retry_from`: for FAILED, the timestamp from which to try again; otherwise 0.
     - `rtype`: the type of the reply: the type of the question, or CNAME (5) if `Shelf.ask_alias`
       returns the CNAME record of the name.
-    - `entry`: the entry that gives the reply. It is None for a miss, and in an archive.
+    - `entry`: the entry that gives the reply, or None for a miss and for a reply that was read from
+      an archive.
 
     >>> reply = Reply(Kind.FRESH, 50, b"\\3www\\7example\\0", (bytes([192, 0, 2, 1]),), rtype=1)
     >>> reply.owner_text, reply.is_miss, reply.is_negative

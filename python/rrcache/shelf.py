@@ -21,12 +21,12 @@ from .replies import Counts, Limits, Reply, Sizes, Stored, Swept, Trimmed
 
 # A buffer of this size has room for most lines of a chapter.
 LINE_ROOM = 4096
-# The most keys that a shelf may hold.
+# The maximum number of keys of a shelf.
 KEYS_MOST = 65_536
 
 
 def line_at(chapters: structs.Chapters, chapter: int, line: int, room: int = LINE_ROOM) -> bytes:
-    """Returns a line of a chapter with its LF, or nothing after the last line."""
+    """Returns a line of a chapter with its LF, or no octets after the last line."""
     buffer, size = create_string_buffer(room), structs.Line()
     place = structs.fill(structs.Place(), chapter, line, 0)
     status = library().rrc_chapter_line(chapters, place, buffer, room, size)
@@ -58,9 +58,9 @@ class ChaptersHeld(Held):
 
 
 class Shelf(Held):
-    """One shard of a cache. One thread at a time may use it, or any number of threads that make
-    only read-only calls. Other Python threads run during a call, so threads that share a shelf need
-    a lock. A `with` statement closes the shelf at its end, and later calls raise `NoShelf`.
+    """One shard of a cache. One thread at a time may use a shelf, or any number of threads that
+    make only read-only calls. Other Python threads run during a call, so threads that share a shelf
+    need a lock. A `with` statement closes the shelf at its end. Later calls raise `NoShelf`.
 
     Raises `BadRules` or `BadSeed` if an argument is out of range:
 
@@ -68,14 +68,15 @@ class Shelf(Held):
     - `chapter`: the maximum number of events in a recorded chapter, 1 to 1,048,576.
     - `max_stale`: for how many seconds past its TTL an RRset may be served, 0 to 604,800 (RFC 8767
       section 4).
-    - `seed`: 16 secret octets, not all 0, under which names are hashed. The default is random.
+    - `seed`: 16 secret octets, not all 0, under which names are hashed. By default, the octets are
+      random.
     - `record`: whether the history is recorded from the start (`Shelf.record`).
 
     Names are text, octets in wire form, or the result of `make_name` under the seed of the shelf.
-    The shelf keeps the folded form of recent names. Types and classes are 16-bit numbers. TTLs and
-    timestamps (`moment`) are in seconds, and a timestamp is at most 2^40. `line` is a 64-bit number
-    that the caller chooses and that is kept with the event of the call. A number that is too large
-    for its field raises `ValueError`.
+    The shelf keeps the library's form of recently used names. Types and classes are 16-bit numbers.
+    TTLs and timestamps (`moment`) are in seconds, and a timestamp is at most 2^40. `line` is a
+    64-bit number that the caller chooses. The history keeps this number with the event of the call.
+    A number that is too large for its field raises `ValueError`.
 
     >>> with Shelf() as shelf:
     ...     outcome = shelf.offer_set("www.example.", 1, Trust.AUTHORITATIVE_ANSWER, 60,
@@ -112,9 +113,9 @@ class Shelf(Held):
     def offer_message_unchecked(self, message: bytes, zone: str | bytes, moment: int,
                                 limits: Limits = Limits(), line: int = 0) -> Counts:
         """Offers all data of a response that are in bailiwick, which means at or below the zone.
-        Unlike `read_response`, it does not compare the response with a query. The caller compares
-        them first. Raises `BadMessage`, `BadName` if the zone is not in wire form, `BadLimits` or
-        `MomentTooLarge`.
+        Unlike `read_response`, this call does not compare the response with a query. The caller
+        must do so first. Raises `BadMessage`, `BadName` if the zone is not in wire form,
+        `BadLimits` or `MomentTooLarge`.
 
         >>> from rrcache import ParsedSet, Query, compose_response
         >>> answer = [ParsedSet("www.example.", 1, 60, [bytes(4)])]
@@ -128,8 +129,8 @@ class Shelf(Held):
 
     def offer_part_unchecked(self, message: bytes, zone: str | bytes, parts: Parts, part: int,
                              moment: int, limits: Limits = Limits(), line: int = 0) -> Counts:
-        """Offers what `offer_message_unchecked` offers, but only the data of names in one part,
-        counted from 0. Raises `BadRules` if there is no such part.
+        """Offers what `offer_message_unchecked` offers, but only the data of names in one part
+        (shelf), counted from 0. Raises `BadRules` if there is no such part.
 
         >>> from rrcache import ParsedSet, Query, compose_response, make_name
         >>> answer = [ParsedSet("www.example.", 1, 60, [bytes(4)])]
@@ -144,9 +145,9 @@ class Shelf(Held):
                            terms(moment, limits, line, parts, part))
 
     def offer_read(self, offers: Offers, part: int, line: int = 0) -> Counts:
-        """Offers the share of one part, with the timestamp of the response. The part is counted
-        from 0, and is below the number of parts for which the message was read. Raises `BadRules`,
-        `NoOffers` or `OtherSeed`.
+        """Makes the offers that belong to one part, with the timestamp of the response. `part` is
+        counted from 0, and is less than the number of parts for which the message was read. Raises
+        `BadRules`, `NoOffers` or `OtherSeed`.
 
         >>> from rrcache import ParsedSet, Query, compose_response, read_response
         >>> query, parts = Query("www.example.", 1, id=0x1234), Parts(4, seed=bytes(range(16)))
@@ -162,10 +163,10 @@ class Shelf(Held):
                            structs.fill(structs.Share(), part, line))
 
     def offer_one(self, offers: Offers, index: int, line: int = 0) -> Outcome:
-        """Offers one of the offers, counted from 0 in the order of iteration. So a caller can
-        decide for each offer whether to store it. The shelf must be the one for the part of the
-        offer's name. Raises `NoOffers` if there is no offer with this number, `OtherSeed` or
-        `MomentTooLarge`.
+        """Makes one of the offers, whose number `index` is counted from 0 in the order of
+        iteration. So a caller can decide for each offer whether to store its data. This shelf must
+        be the one with the number in `part` of the offer's name. Raises `NoOffers` if there is no
+        offer with this number, `OtherSeed` or `MomentTooLarge`.
 
         >>> from rrcache import ParsedSet, Query, compose_response, read_response
         >>> query, parts = Query("www.example.", 1, id=0x1234), Parts(1, seed=bytes(range(16)))
@@ -222,7 +223,7 @@ class Shelf(Held):
     def offer_failure(self, name: str | bytes, rtype: int, ttl: int, moment: int, line: int = 0,
                       rclass: Class | int = Class.IN) -> Outcome:
         """Offers a resolution failure of a name and type for `ttl` seconds (RFC 9520). With `ttl`
-        0, the stored failure ends. Raises `BadName`, `BadType` or `WrongBody`.
+        0, a stored failure of this name and type ends. Raises `BadName`, `BadType` or `WrongBody`.
 
         >>> with Shelf() as shelf:
         ...     _ = shelf.offer_failure("www.example.", 1, 30, moment=1000)
@@ -241,15 +242,15 @@ class Shelf(Held):
         return name if isinstance(name, Name) else self._made(name)
 
     def _look(self) -> structs.Shelf:
-        """Returns a copy of the handle for a read-only call, which writes to the copy."""
+        """Returns a copy of the handle for a read-only call. The call writes to this copy."""
         return structs.Shelf.from_buffer_copy(self._handle)
 
     def ask(self, name: AnyName, rtype: int, moment: int,
             purpose: Purpose | int = Purpose.QUESTION, mode: Mode | int = Mode.NO_STALE,
             line: int = 0, rclass: Class | int = Class.IN) -> Reply:
-        """Looks up the answer to a question, as one event. It does not follow CNAME records: use
-        `ask_alias`. Raises `BadChoice` (the purpose or the mode), `BadType` if the type is 0 or the
-        class is not kept, `BadName`, `OtherSeed` or `MomentTooLarge`.
+        """Looks up the answer to a question, as one event. This call does not follow CNAME records:
+        to do so, use `ask_alias`. Raises `BadChoice` (the purpose or the mode), `BadType` if the
+        type is 0 or the class is not kept, `BadName`, `OtherSeed` or `MomentTooLarge`.
 
         >>> with Shelf() as shelf:
         ...     _ = shelf.offer_set("www.example.", 1, Trust.AUTHORITY, 60, [bytes(4)], moment=1000)
@@ -264,14 +265,15 @@ class Shelf(Held):
     def ask_alias(self, name: AnyName, rtype: int, moment: int,
                   purpose: Purpose | int = Purpose.QUESTION, mode: Mode | int = Mode.NO_STALE,
                   line: int = 0, rclass: Class | int = Class.IN) -> Reply:
-        """Looks up data of the type or the CNAME record of the name, as one event. `rtype` of the
-        reply is CNAME (5) if the reply is the CNAME record. For types CNAME, ANY, NSEC and RRSIG
-        the reply is that of `ask`.
+        """Looks up either data of the type or the CNAME record of the name, as one event. `rtype`
+        of the reply is CNAME (5) if the reply is the CNAME record. For types CNAME, ANY, NSEC
+        and RRSIG, the reply is that of `ask`.
 
-        The reply is the CNAME record if the record is fresh, or acceptably stale, and one of these
-        is true (RFC 8767 section 7). First, the reply for the type is a miss. Second, the record
-        was stored later than the entry for the type, unless that entry is unexpired and of higher
-        rank. Third, the record was stored earlier, and is unexpired and of higher rank.
+        The reply is the CNAME record if this record is fresh, or is stale and stale data are
+        acceptable, and if one of these conditions is true (RFC 8767 section 7). First, the reply
+        for the type is a miss. Second, the record was stored later than the entry for the type,
+        unless that entry is unexpired and of higher rank. Third, the record was stored earlier than
+        that entry, and is unexpired and of higher rank.
 
         Raises the exceptions of `ask`.
 
@@ -288,8 +290,8 @@ class Shelf(Held):
     def peek(self, name: AnyName, rtype: int, moment: int,
              purpose: Purpose | int = Purpose.QUESTION, mode: Mode | int = Mode.NO_STALE,
              rclass: Class | int = Class.IN) -> Reply:
-        """Returns the reply that `ask` would return, but writes no event. No timestamp is too
-        large.
+        """Returns the reply that `ask` would return, but writes no event. Unlike `ask`, accepts
+        timestamps of any size.
 
         >>> with Shelf(record=True) as shelf:
         ...     shelf.peek("www.example.", 1, moment=1000).kind.name, shelf.sizes().events
@@ -301,7 +303,8 @@ class Shelf(Held):
     def peek_alias(self, name: AnyName, rtype: int, moment: int,
                    purpose: Purpose | int = Purpose.QUESTION, mode: Mode | int = Mode.NO_STALE,
                    rclass: Class | int = Class.IN) -> Reply:
-        """Returns the reply that `ask_alias` would return, as `peek` does for `ask`.
+        """Returns the reply that `ask_alias` would return, but writes no event, as `peek` does for
+        `ask`.
 
         >>> with Shelf() as shelf:
         ...     shelf.peek_alias("www.example.", 1, moment=1000).kind.name
@@ -312,8 +315,8 @@ class Shelf(Held):
 
     def stored(self, name: AnyName, rtype: int, rclass: Class | int = Class.IN) -> Stored:
         """Returns the entries of a name and type: the RRset or NODATA of the type, the NXDOMAIN of
-        the name, and the failure of the type. An entry is returned even if it has expired, and even
-        if another entry answers the question. Raises `BadType`, `BadName` or `OtherSeed`.
+        the name, and the failure of the type. Each entry is returned even if it has expired, and
+        even if another entry answers the question. Raises `BadType`, `BadName` or `OtherSeed`.
 
         >>> with Shelf() as shelf:
         ...     _ = shelf.offer_failure("www.example.", 1, 30, moment=1000)
@@ -339,9 +342,9 @@ class Shelf(Held):
 
     def next_expiry(self) -> int | None:
         """Returns a timestamp before which no key is fully expired. A sweep before this timestamp
-        removes nothing, and a sweep at this timestamp may remove nothing. After a sweep, the
-        timestamp is later than that of the sweep, until an offer is made or a chapter is closed.
-        Returns None if and only if the shelf holds no key.
+        removes nothing, and even a sweep at this timestamp may remove nothing. After a sweep,
+        `next_expiry` returns a timestamp later than that of the sweep, until an offer is made or a
+        chapter is closed. Returns None if and only if the shelf holds no key.
 
         >>> with Shelf(max_stale=0) as shelf:
         ...     shelf.next_expiry() is None
@@ -355,9 +358,9 @@ class Shelf(Held):
 
     def sweep_some(self, moment: int, most: int, line: int = 0) -> Swept:
         """Sweeps in steps, so that no call takes long. Each step is a sweep at the timestamp that
-        `next_expiry` returns, and is one event. The call stops when that timestamp is later than
-        `moment`, when at least `most` keys have been removed, or after `most` steps. Returns the
-        number of keys that were removed, and whether no key is left that is fully expired. Raises
+        `next_expiry` then returns, and is one event. The call stops when this timestamp is later
+        than `moment`, when at least `most` keys have been removed, or after `most` steps. Returns
+        the number of keys that were removed, and whether no fully expired key is left. Raises
         `BadRules` if `most` is 0, or `MomentTooLarge`, before the first step. Keys that were
         removed before another exception stay removed, and `swept` of the exception counts them.
 
@@ -381,10 +384,10 @@ class Shelf(Held):
         """Limits the memory of the shelf. Evicts the least recently used keys until the octets of
         the remaining keys (`Sizes.octets`) are at most `limit`, `most` keys are removed, or no key
         is left. Returns the number of keys that were removed, and the remaining octets. Each
-        eviction is one event, and the eviction of a failure is two. Failures with TTL 0 are removed
-        first, and are not counted. Raises `BadRules` if `limit` or `most` is 0, or
-        `MomentTooLarge`, before it removes a key. If `Memory` is raised, keys that were removed
-        before stay removed.
+        eviction is one event, and the eviction of a failure is two events. Failures with TTL 0 are
+        removed first, and are not counted. Raises `BadRules` if `limit` or `most` is 0, or
+        `MomentTooLarge`, before any key is removed. If `Memory` is raised, keys that were removed
+        before the error stay removed.
 
         >>> with Shelf() as shelf:
         ...     for name in "a.example.", "b.example.", "c.example.":
@@ -401,8 +404,8 @@ class Shelf(Held):
         return Trimmed(*structs.numbers_in(trimmed))
 
     def record(self) -> None:
-        """Starts to record the history. No reply depends on this. If the history is already
-        recorded, nothing is done.
+        """Starts to record the history. Recording does not change any reply. If the history is
+        already being recorded, the call does nothing.
 
         >>> with Shelf() as shelf:
         ...     shelf.ask("www.example.", 1, moment=1000).kind.name, shelf.sizes().events
@@ -414,8 +417,8 @@ class Shelf(Held):
         call("rrc_record", self._handle)
 
     def stop_and_drop(self) -> None:
-        """Stops recording, and drops the recorded history. No reply depends on this. If nothing is
-        recorded, nothing is done.
+        """Stops recording, and drops the recorded history. This does not change any reply. If
+        nothing is being recorded, the call does nothing.
 
         >>> with Shelf(record=True) as shelf:
         ...     _ = shelf.ask("www.example.", 1, moment=1000)
@@ -426,8 +429,8 @@ class Shelf(Held):
         call("rrc_stop_and_drop", self._handle)
 
     def drop_chapters(self) -> int:
-        """Drops the closed chapters of the history, and returns their number, which is 0 while
-        nothing is recorded.
+        """Drops the closed chapters of the history, and returns the number of these chapters, which
+        is 0 while nothing is being recorded.
 
         >>> with Shelf(chapter=1, record=True) as shelf:
         ...     for moment in 1000, 1001:
@@ -445,10 +448,10 @@ class Shelf(Held):
         return read_archive(text.decode("ascii"))
 
     def take_chapters(self) -> list[Chapter]:
-        """Takes the closed chapters of the history from the shelf: none while nothing is recorded.
-        The texts of all chapters of one recording, one after another, are an archive. Events before
-        the record are in an earlier chapter, which is not returned. If `Memory` is raised, chapters
-        may be lost.
+        """Takes the closed chapters of the history from the shelf, and returns them. While nothing
+        is being recorded, there are none. The texts of all chapters of one recording, one after
+        another, form an archive. Events before the start of the recording are in an earlier
+        chapter, which is not returned. If `Memory` is raised, chapters may be lost.
 
         >>> with Shelf(chapter=1, record=True) as shelf:
         ...     for moment in 1000, 1001:
@@ -461,8 +464,8 @@ class Shelf(Held):
         return self._chapters("rrc_take_chapters")
 
     def stop_recording(self) -> list[Chapter]:
-        """Stops recording, and returns all recorded chapters, the open one last. Right after
-        `record` there is one chapter, whose `entries` are the contents of the shelf.
+        """Stops recording, and returns all recorded chapters, the open one last. If no event has
+        followed `record`, there is one chapter, whose `entries` are the contents of the shelf.
 
         >>> with Shelf(record=True) as shelf:
         ...     _ = shelf.ask("WWW.example.", 1, moment=1000, line=7)

@@ -1,6 +1,7 @@
 # SPDX-License-Identifier: MIT
 """The structs of include/rrcache_shelf.h and include/rrcache.h for ctypes, with the same fields in
-the same order: `struct rrcache_told` is `Told` here, and `struct rrc_set` is `SetTerms`."""
+the same order. For example, `struct rrcache_told` is `Told` here, and `struct rrc_set` is
+`SetTerms`."""
 from __future__ import annotations
 
 import functools
@@ -86,7 +87,7 @@ class Counts(Structure):
 
 
 class Limits(Structure):
-    """The limits of how long data of a response may be cached."""
+    """The limits on how long data of a response may be cached."""
 
     _fields_ = [("cap", c_uint32), ("negative_cap", c_uint32), ("recheck", c_uint32)]
 
@@ -124,13 +125,13 @@ class Usage(Structure):
 
 
 class Share(Structure):
-    """Which offers of a message to offer: those of a part."""
+    """Which offers of a message to make: those of one part."""
 
     _fields_ = [("part", c_uint64), ("line", c_uint64)]
 
 
 class OfferPick(Structure):
-    """Which one of the offers of a message to offer."""
+    """Which single offer of a message to make."""
 
     _fields_ = [("index", c_uint64), ("line", c_uint64)]
 
@@ -176,7 +177,7 @@ class NegativeTerms(Structure):
 
 
 class FailureTerms(Structure):
-    """The arguments of a call other than the octets of the name of a failure."""
+    """The arguments of a call other than the name of a failure in octets."""
 
     _fields_ = [("moment", c_uint64), ("line", c_uint64), ("ttl", c_uint32), ("rtype", c_uint16),
                 ("rclass", c_uint16)]
@@ -209,7 +210,7 @@ class Answer(Structure):
 
 
 class ParsedSet(Structure):
-    """An RRset in the form of a message."""
+    """An RRset from which a message is composed."""
 
     _fields_ = [("owner", c_void_p), ("owner_size", c_size_t), ("rtype", c_uint16),
                 ("rclass", c_uint16), ("ttl", c_uint32), ("section", c_uint32), ("data", c_void_p),
@@ -278,15 +279,15 @@ class Stats(Structure):
 
 
 # ---- These functions set or get all numbers of a struct at once, which takes a third of the time
-# that one after another takes. They reject a number that is too large for its field; ctypes would
-# keep only the lower bits.
+# of setting or getting them one after another. The functions reject a number that is too large for
+# its field. ctypes would keep only the lower bits of such a number.
 
 LETTERS = {c_bool: "?", c_uint8: "B", c_uint16: "H", c_uint32: "I", c_uint64: "Q", c_void_p: "P"}
 
 
 def letters_of(kind: Any) -> str:
-    """Returns the letters of a field's type in the format of the module `struct`. Arrays are of
-    octets. A nested struct ends with the padding of C."""
+    """Returns the letters of a field's type in the format of the module `struct`. All arrays are
+    arrays of octets. A nested struct ends with the padding that C adds."""
     if issubclass(kind, Array):
         return f"{sizeof(kind)}s"
     if not issubclass(kind, Structure):
@@ -297,7 +298,8 @@ def letters_of(kind: Any) -> str:
 
 @functools.cache
 def packer(kind: type[Structure]) -> struct.Struct:
-    """Returns the layout of a struct, with its nested structs, in the format of C."""
+    """Returns an object that packs and unpacks a struct, with its nested structs, in the layout of
+    C."""
     return struct.Struct(f"@{letters_of(kind)}")
 
 
@@ -320,8 +322,8 @@ def fill(target: T, *numbers: Any) -> T:
 
 
 def wide(number: int) -> int:
-    """Returns a number as an argument of a call. Raises ValueError if it does not fit into 64
-    bits."""
+    """Returns a number as an argument of a call. Raises ValueError if the number does not fit into
+    64 bits."""
     try:
         struct.pack("@Q", number)
     except struct.error as fault:

@@ -1,5 +1,5 @@
 # SPDX-License-Identifier: MIT
-"""The texts that a shared cache writes for each shelf: histories and dumps."""
+"""Gets the texts that a shared cache writes for each shelf: histories and dumps."""
 from __future__ import annotations
 
 import functools
@@ -21,11 +21,11 @@ Take = Callable[[int, bytes], object]
 
 
 def made_apart(call: Callable[[], None], faults: list[BaseException]) -> None:
-    """Makes a call in a thread of its own, and waits until it has ended. In the main thread, the
-    handler of a signal may raise an exception as soon as a callback begins, outside of its `try`.
-    ctypes would drop this exception with the octets, and return an arbitrary number to the library.
-    Objects of `threading` that are written in Python do not bear such an exception either, so a
-    plain lock says when the call has ended."""
+    """Makes a call in a thread of its own, and waits until the call has ended. In the main thread,
+    the handler of a signal may raise an exception as soon as a callback begins, before the `try` of
+    the callback. ctypes would drop this exception together with the octets, and return an arbitrary
+    number to the library. Objects of `threading` that are written in Python cannot handle such an
+    exception either, so a plain lock shows when the call has ended."""
     running, ended = Lock(), [False]
 
     def run() -> None:
@@ -43,9 +43,11 @@ def made_apart(call: Callable[[], None], faults: list[BaseException]) -> None:
 
 
 def made(call: Callable[[], None], faults: list[BaseException]) -> None:
-    """Makes a call apart, but in a daemon thread itself: the interpreter may end beside that, and a
-    thread that begins then may crash it. No handler of a signal runs in a daemon thread. Raises
-    RuntimeError once the interpreter finalizes its modules, when it bears no callback."""
+    """Makes a call in a thread of its own, unless the current thread is a daemon thread, which
+    makes the call itself. While a daemon thread runs, the interpreter may end, and a thread that
+    begins at that time may crash the interpreter. No handler of a signal runs in a daemon thread.
+    Raises RuntimeError once the interpreter finalizes its modules, because no callback can run
+    then."""
     if sys.is_finalizing():
         raise RuntimeError("nothing can be written while the interpreter ends")
     if current_thread().daemon:
@@ -58,8 +60,8 @@ def made(call: Callable[[], None], faults: list[BaseException]) -> None:
 
 
 def written(export: str, cache: Handle, take: Take) -> None:
-    """Makes a call of the library that passes octets to a function, with the number of their shelf.
-    An exception of the function ends the call, and is raised again."""
+    """Makes a call of the library that passes octets, with the number of their shelf, to the
+    function `take`. An exception of this function ends the call, and is raised again."""
     faults: list[BaseException] = []
     statuses: list[int] = []
     caches = [cache]
@@ -74,7 +76,7 @@ def written(export: str, cache: Handle, take: Take) -> None:
 
     def call() -> None:
         try:
-            # Once the call has ended, this thread has no reference to the cache.
+            # Once the call has ended, this thread holds no reference to the cache.
             statuses.append(getattr(library(), export)(caches.pop(), SINK(sink), None))
         except BaseException as fault:
             faults.append(fault)
@@ -93,7 +95,8 @@ def texts_of(export: str, cache: Handle, shelves: int) -> list[str]:
 
 
 def files_of(export: str, cache: Handle, folder: str | os.PathLike[str]) -> list[Path]:
-    """Writes the texts of a call to files of a folder, each named after the number of its shelf."""
+    """Writes the texts of a call to files in a folder, each named after the number of its shelf,
+    and returns the paths of the files."""
     paths: list[Path] = []
     with ExitStack() as files:
         @functools.cache

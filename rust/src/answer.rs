@@ -12,15 +12,16 @@ use crate::response::name_of;
 use crate::{Class, Name, RecordType, RrsetKind, Section, Trust};
 
 /// The answer to a question: its RRsets and their kind. The answer owns the buffer of the RRsets,
-/// and each call that fills the answer uses this buffer again. So a look-up does not allocate.
+/// and each call that fills the answer reuses this buffer. So a look-up into an existing answer
+/// does not allocate memory.
 pub struct Answer {
     buffer: Box<[u8]>,
     /// The answer that the library wrote. Its pointer is null except during a call.
     raw: ffi::rrcache_answer,
 }
 
-// SAFETY: the pointer in `raw` is null except during a call with exclusive access; all else is
-// owned.
+// SAFETY: the pointer in `raw` is null except during a call with exclusive access, and the answer
+// owns everything else.
 unsafe impl Send for Answer {}
 // SAFETY: shared references write nothing, and do not read the pointer in `raw`.
 unsafe impl Sync for Answer {}
@@ -28,8 +29,8 @@ unsafe impl Sync for Answer {}
 impl Answer {
     /// A buffer of this size has room for every answer of a look-up if each CNAME RRset has one
     /// record (RFC 2181 section 10.1) and the RRset at the end of the CNAME chain came in a
-    /// response. A server may send CNAME RRsets of many records: an answer with one of them may
-    /// need up to 1 MiB. `rrcache.h` says when the answer of a response does.
+    /// response. But a server may send CNAME RRsets of many records: an answer with such an RRset
+    /// may need up to 1 MiB. `rrcache.h` says when the answer of a response needs a larger buffer.
     pub const ROOM: usize = ffi::RRCACHE_ANSWER_OCTETS;
 
     /// Makes an empty answer, which is a miss, with room for [`Answer::ROOM`] octets.
@@ -47,9 +48,9 @@ impl Answer {
         Answer { buffer: vec![0; room].into_boxed_slice(), raw }
     }
 
-    /// Makes calls add DNAME RRsets to the answer: each CNAME record that was synthesized from a
-    /// DNAME record is preceded by the DNAME RRset, if that is cached or is in the response (RFC
-    /// 6672 section 3.1).
+    /// Requests DNAME RRsets in the answer: each CNAME record that was synthesized from a DNAME
+    /// record is then preceded by the DNAME RRset, if that RRset is cached or is in the response
+    /// (RFC 6672 section 3.1).
     pub fn with_dnames(mut self) -> Answer {
         self.raw.with_dnames = true;
         self
@@ -63,7 +64,7 @@ impl Answer {
         told
     }
 
-    /// Returns the kind for the name at the end of the CNAME chain.
+    /// Returns the kind of the reply for the name at the end of the CNAME chain.
     pub fn kind(&self) -> AnswerKind {
         match Kind::told(self.raw.kind) {
             _ if self.raw.is_endless => AnswerKind::Endless,
@@ -76,7 +77,8 @@ impl Answer {
         }
     }
 
-    /// Returns the number of CNAME RRsets that lead to the [`end`](Answer::end). They come first.
+    /// Returns the number of CNAME RRsets that lead to the [`end`](Answer::end). These RRsets come
+    /// first.
     pub fn aliases(&self) -> usize {
         self.raw.aliases as usize
     }
@@ -86,15 +88,17 @@ impl Answer {
         self.raw.is_stale
     }
 
-    /// Returns the name at the end of the CNAME chain, in lower case. After a miss it is the name
-    /// to query for. For a delegation it is the zone. It is `None` if no call has filled the
-    /// answer, or if the last call failed. After [`Small`](crate::Error::Small) it is unspecified.
+    /// Returns the name at the end of the CNAME chain, in lower case. After a miss, this is the
+    /// name to query for. For a delegation, it is the zone. The result is `None` if no call has
+    /// filled the answer, or if the last call failed. After [`Small`](crate::Error::Small), the
+    /// result is unspecified.
     pub fn end(&self) -> Option<Name<'_>> {
         name_of(&self.raw.end)
     }
 
-    /// Returns the RRsets one after another: the CNAME RRsets, and the RRset at the end of the
-    /// chain. They borrow the answer, so no call can fill the answer while one of them is in use:
+    /// Returns the RRsets one after another: first the CNAME RRsets, and then the RRset at the end
+    /// of the chain. The RRsets borrow the answer, so no call can fill the answer while an RRset is
+    /// in use:
     ///
     /// ```compile_fail,E0502
     /// # use rrcache::{Answer, Cache, Config, Name, RecordType, Request};
@@ -131,8 +135,8 @@ impl fmt::Debug for Answer {
     }
 }
 
-/// The kind of an [`Answer`], for the name at the end of the CNAME chain. It determines the next
-/// step of a resolver:
+/// The kind of an [`Answer`], for the name at the end of the CNAME chain. The kind determines the
+/// next step of a resolver:
 ///
 /// ```
 /// use rrcache::{Answer, AnswerKind};
@@ -158,13 +162,13 @@ pub enum AnswerKind {
     NoData,
     /// The name does not exist (RFC 2308 section 2.1).
     NxDomain,
-    /// Nothing that may answer: query for the name at the [`end`](Answer::end).
+    /// The cache has nothing that may answer: query for the name at the [`end`](Answer::end).
     Miss,
-    /// Nothing that may answer. The CNAME chain is a loop or has more than 16 records, so a query
-    /// to a server does not help.
+    /// The cache has nothing that may answer, and a query to a server does not help, because the
+    /// CNAME chain is a loop or has more than 16 records.
     Endless,
-    /// Nothing that may answer, and the question has failed recently. A resolver answers SERVFAIL
-    /// until it may try again (RFC 9520).
+    /// The cache has nothing that may answer, and resolution of the question has failed recently. A
+    /// resolver answers SERVFAIL until it may try again (RFC 9520).
     Failed {
         /// The timestamp from which to try again.
         retry_from: u64,
@@ -180,7 +184,7 @@ pub struct Rrsets<'a> {
     octets: PhantomData<&'a [u8]>,
 }
 
-// SAFETY: the pointers lead to octets that are borrowed shared, and are only used to read.
+// SAFETY: the pointers lead to octets that are borrowed as shared, and are used only for reading.
 unsafe impl Send for Rrsets<'_> {}
 // SAFETY: as above.
 unsafe impl Sync for Rrsets<'_> {}
@@ -219,8 +223,8 @@ pub struct Rrset<'a> {
     pub rtype: RecordType,
     /// The class.
     pub class: Class,
-    /// For how many seconds the RRset may be used: its remaining TTL, or 30 if it is stale (RFC
-    /// 8767 section 4).
+    /// For how many seconds the RRset may be used: its remaining TTL, or 30 if the RRset is stale
+    /// (RFC 8767 section 4).
     pub ttl: u32,
     /// The section of a response in which the RRset belongs.
     pub section: Section,
@@ -234,8 +238,8 @@ pub struct Rrset<'a> {
     pub entry: Entry,
 }
 
-/// The entry that an RRset of an answer comes from. A resolver uses it to decide when to prefetch
-/// the RRset:
+/// The entry that an RRset of an answer comes from. A resolver can use the entry to decide when to
+/// prefetch the RRset:
 ///
 /// ```
 /// # use rrcache::Rrset;
@@ -246,15 +250,17 @@ pub struct Rrset<'a> {
 #[derive(Clone, Copy, Debug, PartialEq, Eq)]
 #[non_exhaustive]
 pub struct Entry {
-    /// The TTL as it was stored. The TTL of an RRset from a response is at most the cap.
+    /// The TTL with which the entry was stored. For an RRset from a response, this is at most the
+    /// cap.
     pub ttl: u32,
     /// The timestamp at which the entry was stored.
     pub moment: u64,
-    /// The number of the event that stored the entry; no other entry of the shelf has it. In the
-    /// answer of a response it is 0.
+    /// The number of the event that stored the entry. No other entry of the shelf has this number.
+    /// In the answer of a response, the number is 0.
     pub number: u64,
-    /// The number of uses of keys of the shelf after the last use of this key, before this look-up.
-    /// At most that many keys have been used since. In the answer of a response it is 0.
+    /// The number of uses of keys of the shelf between the last use of this key and this look-up.
+    /// At most that many keys have been used in that time. In the answer of a response, the age is
+    /// 0.
     pub age: u64,
 }
 
@@ -285,8 +291,8 @@ impl<'a> Rrset<'a> {
     }
 }
 
-/// Writes the records in presentation form, one record per line. The rdata are hexadecimal for
-/// every type (RFC 3597 section 5): `www.example. 50 IN A \# 4 c0000201`.
+/// Writes the records in presentation format, one record on each line. The rdata of every type are
+/// written in hexadecimal (RFC 3597 section 5): `www.example. 50 IN A \# 4 c0000201`.
 impl fmt::Display for Rrset<'_> {
     fn fmt(&self, f: &mut fmt::Formatter<'_>) -> fmt::Result {
         for (number, datum) in self.data.clone().enumerate() {

@@ -12,9 +12,9 @@ use crate::{
     Response, Set, Stats,
 };
 
-/// An RRset cache that threads share, and that does its own locking.
+/// An RRset cache that threads share. The cache does its own locking.
 ///
-/// Any thread may make any call at any time, through a shared reference.
+/// Any thread may make any call at any time through a shared reference.
 ///
 /// ```
 /// use rrcache::{AnswerKind, Cache, Config, Name, RecordType, Request, Set};
@@ -37,11 +37,11 @@ pub struct Cache {
 
 // SAFETY: any thread may call the library, and close the cache.
 unsafe impl Send for Cache {}
-// SAFETY: any thread may make any call except `rrcache_close` at any time, because the library
-// locks.
+// SAFETY: any thread may make any call except `rrcache_close` at any time, because the library does
+// its own locking.
 unsafe impl Sync for Cache {}
 
-/// A number of the crate's version.
+/// Converts one number of the crate's version.
 const fn number(text: &str) -> u32 {
     match u32::from_str_radix(text, 10) {
         Ok(number) => number,
@@ -49,12 +49,12 @@ const fn number(text: &str) -> u32 {
     }
 }
 
-/// The version of the crate, which is that of the headers.
+/// The version of the crate, which is also the version of the headers.
 pub(crate) const MAJOR: u32 = number(env!("CARGO_PKG_VERSION_MAJOR"));
 pub(crate) const MINOR: u32 = number(env!("CARGO_PKG_VERSION_MINOR"));
 
-/// Whether a library of this version has all functions that `ffi` declares. Major, minor and patch
-/// have 8 bits each.
+/// Returns whether a library of this version has all functions that `ffi` declares. In the number,
+/// major, minor and patch have 8 bits each.
 fn is_supported(version: u32) -> bool {
     version >> 16 == MAJOR && version >> 8 & 0xff >= MINOR
 }
@@ -63,8 +63,8 @@ impl Cache {
     /// Opens a cache.
     ///
     /// Returns [`BadRules`](Error::BadRules) or [`BadLimits`](Error::BadLimits) if a number is out
-    /// of range, [`BadSeed`](Error::BadSeed) if the system has no random octets,
-    /// [`Library`](Error::Library) if the library has another version, and
+    /// of range, [`BadSeed`](Error::BadSeed) if the system provides no random octets,
+    /// [`Library`](Error::Library) if the version of the library is not supported, and
     /// [`Memory`](Error::Memory) if `malloc` fails.
     pub fn open(config: &Config) -> Result<Cache, Error> {
         // SAFETY: the call has no arguments.
@@ -83,8 +83,8 @@ impl Cache {
         self.raw.as_ptr()
     }
 
-    /// Looks up the answer to a question, as [`lookup_into`](Cache::lookup_into) does, in a new
-    /// [`Answer`].
+    /// Looks up the answer to a question, as [`lookup_into`](Cache::lookup_into) does, and returns
+    /// a new [`Answer`].
     pub fn lookup(&self, request: &Request<'_>) -> Result<Answer, Error> {
         let mut answer = Answer::new();
         self.lookup_into(request, &mut answer)?;
@@ -93,13 +93,14 @@ impl Cache {
 
     /// Looks up the answer to a question, and returns its kind. The answer has the CNAME RRsets of
     /// the CNAME chain that begins at the name, and the reply for the name at the end of the chain:
-    /// an RRset of the type, a negative answer, or a miss. After a miss the answer still has the
-    /// CNAME RRsets. No CNAME record is followed for types CNAME and ANY (RFC 1034 section 4.3.2),
-    /// and for types NSEC and RRSIG (RFC 4035 section 2.5).
+    /// an RRset of the type, a negative answer, or a miss. After a miss, the answer still has the
+    /// CNAME RRsets. For a question of type CNAME or ANY (RFC 1034 section 4.3.2), NSEC or RRSIG
+    /// (RFC 4035 section 2.5), no CNAME record is followed.
     ///
-    /// With [`StaleIfFailed`](crate::Mode::StaleIfFailed), stale data are acceptable if the
-    /// question has failed recently, and this failure was stored after the CNAME record of the
-    /// question's name (RFC 8767 section 5). A look-up does not allocate while nothing is recorded.
+    /// With [`StaleIfFailed`](crate::Mode::StaleIfFailed), stale data are acceptable if resolution
+    /// of the question has failed recently, and this failure was stored after the CNAME record, if
+    /// any, of the question's name (RFC 8767 section 5). A look-up does not allocate memory unless
+    /// a history is being recorded.
     ///
     /// Returns [`Small`](Error::Small) if the buffer of the answer is too small. The answer then
     /// has the RRsets that fit. After any other error the answer is empty.
@@ -126,8 +127,8 @@ impl Cache {
         Ok(answer.kind())
     }
 
-    /// Looks up a delegation, as [`lookup_delegation_into`](Cache::lookup_delegation_into) does, in
-    /// a new [`Answer`].
+    /// Looks up a delegation, as [`lookup_delegation_into`](Cache::lookup_delegation_into) does,
+    /// and returns a new [`Answer`].
     pub fn lookup_delegation(&self, request: &Request<'_>) -> Result<Answer, Error> {
         let mut answer = Answer::new();
         self.lookup_delegation_into(request, &mut answer)?;
@@ -136,7 +137,7 @@ impl Cache {
 
     /// Looks up the deepest unexpired NS RRset at or above a name, from which a resolver can start
     /// (RFC 1034 section 5.3.3, RFC 9156 section 2). The [`end`](Answer::end) of the answer is the
-    /// owner of that RRset. If there is none, the answer is a miss. The type, the mode and
+    /// owner of that RRset. If there is no such RRset, the answer is a miss. The type, the mode and
     /// `takes_glue` of the request are ignored.
     ///
     /// ```
@@ -165,13 +166,14 @@ impl Cache {
     ///
     /// Returns [`OtherQuery`](Error::OtherQuery) if the octets do not answer the query: the caller
     /// then drops them and keeps waiting. [`BadMessage`](Error::BadMessage) and
-    /// [`NoQuestion`](Error::NoQuestion) are failures of the server, and nothing is stored. A
+    /// [`NoQuestion`](Error::NoQuestion) mean that the server has failed, and nothing is stored. A
     /// response with an RCODE other than NOERROR and NXDOMAIN is stored as a failure of its
     /// question. So store such a response only when no other server is left to ask. From a response
-    /// with TC set nothing is stored: send the query again over TCP. If such a response ends inside
-    /// a record, the error is `BadMessage`. The caller checks the address and port that a response
-    /// came from. After [`Memory`](Error::Memory) or [`HistoryFull`](Error::HistoryFull), a part of
-    /// the data may be stored.
+    /// with TC set, nothing is stored: send the query again over TCP. If such a response ends
+    /// inside a record, the error is `BadMessage`, which then does not mean that the server has
+    /// failed. The caller must check the address and port that a response came from. After
+    /// [`Memory`](Error::Memory) or [`HistoryFull`](Error::HistoryFull), a part of the data may
+    /// have been stored.
     ///
     /// ```
     /// use rrcache::{Cache, Config, Name, Query, RecordType, Response, ResponseKind};
@@ -189,7 +191,7 @@ impl Cache {
         self.store_by(query, response, ptr::null_mut())
     }
 
-    /// Stores a response, and fills `answer` unless the pointer is null.
+    /// Stores a response, and fills `answer` unless this pointer is null.
     fn store_by(
         &self,
         query: &Query<'_>,
@@ -206,17 +208,17 @@ impl Cache {
         Ok(Report::told(unsafe { report.assume_init_ref() }))
     }
 
-    /// Stores a response as [`store`](Cache::store) does, and fills the answer that the response
-    /// itself gives. It includes data with TTL 0, data that were left out, and data of lower rank
-    /// than the cached data. So a waiting client gets the data that the server sent, and for type
-    /// ANY all RRsets of the name. The answer is a miss if only the report has the result, as for a
-    /// negative response without an SOA record.
+    /// Stores a response as [`store`](Cache::store) does, and fills `answer` with the answer that
+    /// the response itself gives. This answer includes data with TTL 0, data that were left out of
+    /// the cache, and data of lower rank than the cached data. So a waiting client gets the data
+    /// that the server sent and, for type ANY, all RRsets of the name. The answer is a miss if only
+    /// the report has the result, as for a negative response without an SOA record.
     ///
     /// Returns [`Small`](Error::Small) if the buffer of the answer is too small, which may happen
     /// for type ANY, for a type that is not kept, such as RRSIG, and for an RRset of more than
     /// 16,384 octets of rdata. The answer then has the RRsets that fit. Returns
     /// [`BadData`](Error::BadData) if a record whose type is not kept cannot be read. Both errors
-    /// come after everything is stored.
+    /// are returned only after everything is stored.
     pub fn store_into(
         &self,
         query: &Query<'_>,
@@ -259,7 +261,8 @@ impl Cache {
         Ok(Outcome::told(outcome))
     }
 
-    /// Stores a resolution failure of a name and a type (RFC 9520). It is always stored.
+    /// Stores a resolution failure of a name and a type (RFC 9520). If no error is returned, the
+    /// failure is stored.
     pub fn store_failure(&self, failure: &Failure<'_>) -> Result<(), Error> {
         let (failure, mut outcome) = (failure.raw(), 0);
         // SAFETY: the name of the failure is borrowed.
@@ -267,17 +270,17 @@ impl Cache {
     }
 
     /// Removes the cached data of a name, a class and a type: the RRset or NODATA, the failure, and
-    /// the NXDOMAIN of the name. With type ANY (255), it removes the data of every type. The mode
-    /// and `takes_glue` of the request are ignored. Data that were removed before an error stay
-    /// removed.
+    /// the NXDOMAIN of the name. With type ANY (255), the call removes the data of every type. The
+    /// mode and `takes_glue` of the request are ignored. Data that were removed before an error
+    /// stay removed.
     pub fn forget(&self, request: &Request<'_>) -> Result<(), Error> {
         // SAFETY: the name of the request is borrowed.
         check(unsafe { ffi::rrcache_forget(self.raw(), &request.raw()) })
     }
 
-    /// Removes the keys that are fully expired at `moment`, which may be [`NOW`](crate::NOW), until
-    /// at least `most` keys are removed or none is left. Returns [`BadRules`](Error::BadRules) if
-    /// `most` is 0. Keys that were removed before another error stay removed. The next sweep
+    /// Removes keys that are fully expired at `moment`, which may be [`NOW`](crate::NOW), until at
+    /// least `most` keys are removed or no such key is left. Returns [`BadRules`](Error::BadRules)
+    /// if `most` is 0. Keys that were removed before another error stay removed. The next sweep
     /// continues in the shelf in which this one ended. A caller need not sweep, because eviction
     /// makes room.
     pub fn sweep(&self, moment: u64, most: u64) -> Result<Swept, Error> {
@@ -296,7 +299,8 @@ impl Cache {
         stats
     }
 
-    /// Returns the counters of one shelf, counted from 0, or `None` if there is no such shelf.
+    /// Returns the counters of the shelf with this number, counted from 0, or `None` if there is no
+    /// such shelf.
     pub fn stats_of(&self, shelf: u64) -> Option<Stats> {
         let mut stats = Stats::default();
         // SAFETY: the pointer leads to what the call writes.

@@ -30,7 +30,7 @@ macro_rules! choices {
 }
 
 choices! {
-    /// The classes whose data are kept (RFC 1035 section 3.2.4).
+    /// The classes whose data the cache keeps (RFC 1035 section 3.2.4).
     #[derive(Clone, Copy, Debug, Default, PartialEq, Eq, Hash)]
     pub Class {
         /// The Internet.
@@ -46,8 +46,8 @@ choices! {
 impl TryFrom<u16> for Class {
     type Error = crate::Error;
 
-    /// Returns the class with this number, or [`BadType`](crate::Error::BadType) for a class whose
-    /// data are not kept.
+    /// Returns the class with this number, or [`BadType`](crate::Error::BadType) if data of this
+    /// class are not kept.
     fn try_from(number: u16) -> Result<Class, crate::Error> {
         match number {
             1 => Ok(Class::In),
@@ -75,7 +75,7 @@ choices! {
         /// Never.
         #[default]
         NoStale = 1,
-        /// Only if the question has failed recently.
+        /// Only if resolution of the question has failed recently.
         StaleIfFailed = 2,
         /// With or without a failure.
         StaleNow = 3,
@@ -89,7 +89,7 @@ choices! {
         /// Data of the additional section, or of the authority section of a non-authoritative
         /// response.
         Additional = 1,
-        /// Any other data of the answer section.
+        /// Data of the answer section that do not have the highest rank.
         NonAuthoritativeAnswer = 2,
         /// Data of the authority section of an authoritative response.
         Authority = 3,
@@ -180,14 +180,14 @@ choices! {
 #[derive(Clone, Copy, Debug, PartialEq, Eq, PartialOrd, Ord, Hash)]
 pub struct RecordType(pub u16);
 
-/// Declares the types that have a mnemonic here.
+/// Declares the types for which this crate has a mnemonic.
 macro_rules! types {
     ($($name:ident = $number:literal,)*) => {
         impl RecordType {
             $(#[doc = concat!("Type ", stringify!($number), ".")]
             pub const $name: RecordType = RecordType($number);)*
 
-            /// Returns the mnemonic of the type, if it has one here.
+            /// Returns the mnemonic of the type, if this crate has one.
             fn mnemonic(self) -> Option<&'static str> {
                 match self.0 {
                     $($number => Some(stringify!($name)),)*

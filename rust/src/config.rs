@@ -5,7 +5,8 @@ use std::fmt;
 
 use crate::ffi;
 
-/// The configuration of a [`Cache`](crate::Cache). The default is all zeros, without stale data.
+/// The configuration of a [`Cache`](crate::Cache). In the default configuration, all fields are
+/// zero, and no stale data are served.
 ///
 /// ```
 /// use rrcache::Config;
@@ -22,21 +23,21 @@ pub struct Config {
     pub keys: u64,
     /// The number of shelves: 1 to 64, or 0 for 64.
     pub shelves: u64,
-    /// The maximum number of threads that can look up in a shelf at once: 1 to 64, or 0 for the
-    /// number of processors, but at most 16.
+    /// The maximum number of threads that can look up names in a shelf at once: 1 to 64, or 0 for
+    /// the number of processors, but at most 16.
     pub readers: u64,
     /// For how many seconds past its TTL an RRset may be served: 0 to 604,800 (RFC 8767 section 4).
     pub max_stale: u64,
-    /// The limits of how long data of responses may be cached.
+    /// The limits on how long data of responses may be cached.
     pub limits: Limits,
-    /// Secret random octets, under which names are divided among the shelves, or all 0 for octets
-    /// from the system.
+    /// Secret random octets, or zeros for random octets from the system. A hash under this seed
+    /// divides the names among the shelves.
     pub seed: [u8; 16],
     /// Whether every look-up moves its entry to the front of the LRU order.
     pub exact_recency: bool,
 }
 
-/// Leaves out the seed, which is secret and must not be logged.
+/// Leaves out the seed, which is secret and must not appear in logs.
 impl fmt::Debug for Config {
     fn fmt(&self, f: &mut fmt::Formatter<'_>) -> fmt::Result {
         f.debug_struct("Config")
@@ -66,9 +67,9 @@ impl Config {
     }
 }
 
-/// The limits of how long data of a response may be cached, in seconds. In a
-/// [`Response`](crate::Response), 0 means the limit of the cache. In a [`Config`], 0 means the
-/// default that is given here.
+/// The limits on how long data of a response may be cached, in seconds. In a
+/// [`Response`](crate::Response), a limit of 0 means the limit of the cache. In a [`Config`], a
+/// limit of 0 means the default, which is given below.
 #[repr(C)]
 #[derive(Clone, Copy, Debug, Default, PartialEq, Eq)]
 pub struct Limits {

@@ -6,7 +6,7 @@ use std::io;
 
 use crate::ffi;
 
-/// Declares the errors, each with its number and its text in `rrcache_shelf.h`.
+/// Declares the errors, each with the number and the text that it has in `rrcache_shelf.h`.
 macro_rules! refusals {
     ($($(#[$doc:meta])* $name:ident = $number:literal $text:literal,)*) => {
         /// The error of a call: a status of the library, with its text.
@@ -65,28 +65,28 @@ refusals! {
     HasShelf = 2 "the handle already holds a shelf",
     /// `malloc` failed.
     Memory = 3 "out of memory",
-    /// Event numbers are used up: the next one would be 2^62.
+    /// The event numbers are used up: the next number would be 2^62.
     HistoryFull = 4 "the event numbers are used up",
     /// The timestamp is above 2^40.
     MomentTooLarge = 5 "the timestamp is too large",
-    /// A number of the [`Config`](crate::Config), or the limit of a sweep, is out of range.
+    /// A number in the [`Config`](crate::Config) is out of range, or the limit of a sweep is 0.
     BadRules = 6 "a number in the rules is out of range",
-    /// The system has no random octets for a seed.
+    /// The system provides no random octets for a seed.
     BadSeed = 7 "the seed is all zeros",
-    /// A number of the [`Limits`](crate::Limits) is out of range.
+    /// A number in the [`Limits`](crate::Limits) is out of range.
     BadLimits = 8 "a limit is out of range",
     /// The argument is not a name.
     BadName = 9 "the octets are not the wire form of a name",
-    /// The response answers the query but cannot be read. This is a failure of the server, unless
-    /// TC is set.
+    /// The response answers the query but cannot be read. This means that the server has failed,
+    /// unless TC is set.
     BadMessage = 10 "the octets cannot be read as a response",
     /// An enumeration has no such number. No call of this crate returns this error.
     BadChoice = 11 "no purpose, mode, kind, rank, section or RCODE has this number",
-    /// No data of this type are kept in this class, or the type of a question is 0.
+    /// Data of this type are not supported in this class, or the type of a question is 0.
     BadType = 12 "this type or class is not supported",
     /// The rdata do not fill the layout of their type, or have more than 65,535 octets.
     BadData = 13 "the rdata are malformed for their type",
-    /// An RRset has no data, or a TTL is above 2^31 - 1.
+    /// The RRset to store has no data, or a TTL is above 2^31 - 1.
     WrongBody = 14 "the RRset has no data, or its TTL is too large",
     /// A reply has too many octets. No call of this crate returns this error.
     Wide = 15 "the reply has too many octets of rdata",
@@ -102,17 +102,17 @@ refusals! {
     OtherQuery = 20 "the octets do not answer the query",
     /// A handle holds no chapters. No call of this crate returns this error.
     NoChapters = 21 "the handle holds no chapters",
-    /// Histories are recorded, so nothing can be dumped.
+    /// Histories are being recorded, so nothing can be dumped.
     HasChapters = 22 "the handle already holds chapters",
     /// There is no such line. No call of this crate returns this error.
     NoLine = 23 "there is no such line",
-    /// A sink failed. The error of the writer is returned instead of this error.
+    /// A sink failed. Calls of this crate return the error of the writer instead of this error.
     Sink = 24 "the sink returned an error",
     /// Buffers overlap. No call of this crate returns this error.
     Overlap = 25 "an output overlaps another argument",
     /// A name has another seed. No call of this crate returns this error.
     OtherSeed = 26 "the name or the message has a seed other than the shelf's",
-    /// The response is a header without a question. This is a failure of the server.
+    /// The response is a header without a question. This means that the server has failed.
     NoQuestion = 27 "the response has no question",
     /// The data would use more memory than a shelf may use.
     TooLarge = 28 "the data would use more memory than a shelf may use",

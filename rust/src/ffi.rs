@@ -1,6 +1,6 @@
 // SPDX-License-Identifier: MIT
-//! The parts of `rrcache.h` and `rrcache_shelf.h` that this crate uses, under their names in C. The
-//! tests compare each struct, number and text with the headers (`layout`).
+//! The parts of `rrcache.h` and `rrcache_shelf.h` that this crate uses, with their names in C. The
+//! tests in `layout` compare each struct, number and text with the headers.
 
 #![allow(non_camel_case_types)]
 
@@ -17,7 +17,7 @@ pub const RRCACHE_DONE: u32 = 0;
 pub const RRCACHE_ANSWER_OCTETS: usize = 65536;
 pub const RRCACHE_STATS_OCTETS: usize = 384;
 
-/// A cache, which is opaque here.
+/// A cache. Its fields are not declared in the headers.
 #[repr(C)]
 pub struct rrcache {
     _opaque: [u8; 0],

@@ -1,5 +1,6 @@
 // SPDX-License-Identifier: MIT
-//! Records the histories of a cache's shelves, and writes histories and contents.
+//! Records the histories of the shelves of a cache, and writes these histories and the contents of
+//! the shelves.
 
 use std::any::Any;
 use std::ffi::{c_int, c_void};
@@ -9,20 +10,20 @@ use std::panic::{catch_unwind, resume_unwind, AssertUnwindSafe};
 use crate::error::check;
 use crate::{ffi, Cache, Error};
 
-/// A function that gets the octets of each shelf, and its failure.
+/// A function that receives the octets of each shelf, and the reason why it failed, if it did.
 struct Sink<F> {
     write: F,
     fault: Option<Fault>,
 }
 
-/// Why a sink ended early.
+/// The reason why a sink ended early.
 enum Fault {
     Error(io::Error),
     Panic(Box<dyn Any + Send>),
 }
 
-/// The callback that the library calls for each piece. A panic does not unwind into C: it is
-/// stored, and resumes after the library's call has returned.
+/// The callback that the library calls for each piece of text. A panic does not unwind into C: the
+/// callback stores the panic, which resumes after the call of the library has returned.
 ///
 /// # Safety `state` points to a `Sink<F>` with no other reference, and `octets` points to `size`
 /// octets.
@@ -68,21 +69,23 @@ impl Cache {
         }
     }
 
-    /// Starts to record the histories of all shelves. While histories are recorded, each look-up is
-    /// an event, and waits for other look-ups in its shelf. Events use at least 96 octets each and
-    /// stay in memory until recording stops, and [`Config::octets`](crate::Config::octets) does not
-    /// limit them. After an error nothing is recorded.
+    /// Starts to record the histories of all shelves. While histories are being recorded, each
+    /// look-up is an event, and waits for other look-ups in its shelf. Events use at least 96
+    /// octets each and stay in memory until recording stops.
+    /// [`Config::octets`](crate::Config::octets) does not limit this memory. After an error,
+    /// nothing is recorded.
     pub fn record(&self) -> Result<(), Error> {
         // SAFETY: the cache is open.
         check(unsafe { ffi::rrcache_record_all(self.raw()) })
     }
 
-    /// Stops recording, and writes the archive of each shelf, one shelf after another. If nothing
-    /// is recorded, nothing is written.
+    /// Stops recording, and writes the archive (the text of the history) of each shelf, one shelf
+    /// after another. If nothing is being recorded, nothing is written.
     ///
     /// Returns the error of the writer unchanged, and an error of the library as an [`Error`] in an
     /// [`io::Error`]. After any error, the histories that were not written are dropped. The writer
-    /// must not make calls on this cache: `record`, `stop_recording` and `dump` would deadlock.
+    /// must not make calls on this cache: calls of `record`, `stop_recording` and `dump` would
+    /// never return.
     ///
     /// ```
     /// use rrcache::{Cache, Config, Name, RecordType, Request};
@@ -98,7 +101,7 @@ impl Cache {
         self.stop_recording_by(|_, octets| writer.write_all(octets))
     }
 
-    /// Stops recording as [`stop_recording`](Cache::stop_recording) does, and calls `write` with
+    /// Stops recording as [`stop_recording`](Cache::stop_recording) does, but calls `write` with
     /// each piece of an archive and the number of its shelf, counted from 0.
     pub fn stop_recording_by(
         &self,
@@ -108,11 +111,12 @@ impl Cache {
     }
 
     /// Writes the contents of each shelf, one shelf after another, in the form in which a chapter
-    /// of an archive begins. The contents of each shelf are those at one point in time.
+    /// of an archive begins (`docs/FORMATS.md`). The text of a shelf shows its contents at one
+    /// point in time.
     ///
     /// Returns the error of the writer unchanged, and an error of the library as an [`Error`] in an
-    /// [`io::Error`]: [`HasChapters`](Error::HasChapters) while histories are recorded. The writer
-    /// must not make calls on this cache.
+    /// [`io::Error`]: [`HasChapters`](Error::HasChapters) while histories are being recorded. The
+    /// writer must not make calls on this cache.
     ///
     /// ```
     /// use rrcache::{Cache, Config, Name, RecordType, Set};
@@ -128,8 +132,8 @@ impl Cache {
         self.dump_by(|_, octets| writer.write_all(octets))
     }
 
-    /// Writes the contents as [`dump`](Cache::dump) does, and calls `write` with each piece and the
-    /// number of its shelf, counted from 0.
+    /// Writes the contents as [`dump`](Cache::dump) does, but calls `write` with each piece of the
+    /// text and the number of its shelf, counted from 0.
     pub fn dump_by(&self, write: impl FnMut(u64, &[u8]) -> io::Result<()>) -> io::Result<()> {
         self.write_by(ffi::rrcache_dump, write)
     }

@@ -12,8 +12,8 @@ use crate::Error;
 const LABEL_MOST: usize = 63;
 const NAME_MOST: usize = 255;
 
-/// A valid name in wire form, whole and without compression pointers. It is parsed from text, in
-/// which the last dot is optional, or it borrows octets, such as those of a question.
+/// A valid, complete name in wire form, without compression pointers. A name is parsed from text,
+/// in which the last dot is optional, or borrows octets, such as those of a question.
 ///
 /// Two names are equal if they differ only in the case of ASCII letters (RFC 4343).
 ///
@@ -43,8 +43,8 @@ impl<'a> Name<'a> {
     }
 
     /// Makes a name from the beginning of `octets`, and returns the name and the octets that follow
-    /// it. So a caller can read the name of a question, which has no compression pointer. Returns
-    /// [`BadName`](Error::BadName) if the octets do not begin with a name.
+    /// it. In this way, a caller can read the name of a question, which has no compression pointer.
+    /// Returns [`BadName`](Error::BadName) if the octets do not begin with a name.
     ///
     /// ```
     /// use rrcache::Name;
@@ -92,7 +92,8 @@ impl<'a> Name<'a> {
     }
 }
 
-/// Reads the octet after a backslash: for \DDD the octet with this number, otherwise the next one.
+/// Reads an escape after its backslash: for \DDD, the octet with this number; otherwise, the next
+/// octet.
 fn escaped(octets: &mut Bytes<'_>) -> Result<u8, Error> {
     let first = octets.next().ok_or(Error::BadName)?;
     if !first.is_ascii_digit() {
@@ -121,7 +122,8 @@ impl FromStr for Name<'static> {
 
     /// Parses the text of a name, in which the last dot is optional. Returns
     /// [`BadName`](Error::BadName) if a label is empty or too long, the name is too long, a
-    /// backslash escapes nothing, or a character is not ASCII: use A-labels (RFC 5890).
+    /// backslash escapes nothing, or a character is not ASCII: use A-labels for such names (RFC
+    /// 5890).
     fn from_str(text: &str) -> Result<Name<'static>, Error> {
         if text == "." {
             return Ok(Name::ROOT);
@@ -176,7 +178,8 @@ impl fmt::Debug for Name<'_> {
     }
 }
 
-/// Length octets are below the octets of letters, so all octets can be compared in the same way.
+/// Length octets are smaller than the octets of letters, so all octets can be compared in the same
+/// way.
 impl PartialEq for Name<'_> {
     fn eq(&self, other: &Name<'_>) -> bool {
         self.wire.eq_ignore_ascii_case(&other.wire)

@@ -14,8 +14,8 @@ const TC: u8 = 0x02;
 const RA: u8 = 0x80;
 
 impl AnswerKind {
-    /// Returns the RCODE of the response to a client: NOERROR, NXDOMAIN, or SERVFAIL if nothing may
-    /// answer.
+    /// Returns the RCODE of the response to a client: NOERROR, NXDOMAIN, or SERVFAIL if the answer
+    /// is a miss.
     pub fn rcode(self) -> u8 {
         match self {
             AnswerKind::Fresh | AnswerKind::Stale | AnswerKind::NoData => 0,
@@ -26,14 +26,14 @@ impl AnswerKind {
 }
 
 impl Answer {
-    /// Writes the response to a client's query to `message`, and replaces its previous contents.
-    /// The response has the RRsets in their sections, or no records if nothing may answer. QR and
-    /// RA are set, and the identifier and the question are those of the query. If the response
-    /// would have more than `most` octets, it has no records, and TC is set (RFC 2181 section 9).
-    /// The limit is 512 over UDP without EDNS.
+    /// Writes the response to a client's query to `message`, and replaces the previous contents of
+    /// `message`. The response has the RRsets of the answer in their sections, or no records if the
+    /// answer is a miss. QR and RA are set, and the identifier and the question are those of the
+    /// query. If the response would have more than `most` octets, it has no records, and TC is set
+    /// (RFC 2181 section 9). Over UDP without EDNS, `most` is 512.
     ///
-    /// RD is clear. The caller copies RD from the query (`message[2] |= query[2] & 1`), and adds an
-    /// OPT record if the query had one.
+    /// RD is clear. The caller must copy RD from the query (`message[2] |= query[2] & 1`), and add
+    /// an OPT record if the query had one.
     ///
     /// ```
     /// use rrcache::{Cache, Config, Name, Query, RecordType, Request};
@@ -75,8 +75,8 @@ fn begin(message: &mut Vec<u8>, query: &Query<'_>, rcode: u8) {
 }
 
 /// Writes the records of an RRset, and returns their number, or `None` if the message then has more
-/// than `most` octets. Owners are pointers to the name of the question, or to the owner of the
-/// first record.
+/// than `most` octets. Owners are compressed: they point to the name of the question, or to the
+/// owner of the first record of the RRset.
 fn put_rrset(
     message: &mut Vec<u8>,
     query: &Query<'_>,

@@ -6,7 +6,7 @@ use crate::{Class, Mode, Name, RecordType};
 
 /// A timestamp that means the current time of `CLOCK_BOOTTIME`.
 ///
-/// Timestamps are in seconds, at most 2^40. A program passes `NOW` in all calls, or it passes
+/// Timestamps are in seconds, at most 2^40. A program must either pass `NOW` in all calls, or pass
 /// timestamps from its own clock in all calls. That clock must never be set back.
 pub const NOW: u64 = 0;
 
@@ -36,7 +36,8 @@ pub struct Request<'a> {
 }
 
 impl<'a> Request<'a> {
-    /// Makes a request of class IN for now, to which neither stale data nor glue are acceptable.
+    /// Makes a request of class IN with the timestamp [`NOW`], for which neither stale data nor
+    /// glue are acceptable.
     pub fn new(name: &'a Name<'a>, rtype: RecordType) -> Request<'a> {
         Request {
             name,

@@ -5,24 +5,25 @@ use crate::choices::ResponseNumber;
 use crate::ffi;
 use crate::{Class, Limits, Name, RecordType, NOW};
 
-/// The query that a response has to answer.
+/// The query that a resolver sent, and that a response has to answer.
 #[derive(Clone, Copy, Debug)]
 pub struct Query<'a> {
-    /// The name of its question.
+    /// The name of the question.
     pub name: &'a Name<'a>,
-    /// The type of its question.
+    /// The type of the question.
     pub rtype: RecordType,
-    /// The class of its question.
+    /// The class of the question.
     pub class: Class,
-    /// Its identifier.
+    /// The identifier of the query.
     pub id: u16,
-    /// Whether a response has to repeat the letters of the name in the same case. A response is
-    /// harder to guess if the query has letters in random case.
+    /// Whether a response has to repeat the letters of the name in the same case. An attacker can
+    /// less easily guess a response if the query has letters in random case.
     pub with_case: bool,
 }
 
 impl<'a> Query<'a> {
-    /// Makes a query of class IN. A response to it may have the letters of the name in any case.
+    /// Makes a query of class IN. A response to this query may have the letters of the name in any
+    /// case.
     pub fn new(name: &'a Name<'a>, rtype: RecordType, id: u16) -> Query<'a> {
         Query { name, rtype, class: Class::In, id, with_case: false }
     }
@@ -42,16 +43,17 @@ impl<'a> Query<'a> {
 /// A response from a server.
 #[derive(Clone, Copy, Debug)]
 pub struct Response<'a> {
-    /// Its octets, without the length that precedes it over TCP.
+    /// The octets of the response, without the length that precedes them over TCP.
     pub octets: &'a [u8],
-    /// The zone whose server sent the response. Data that are out of bailiwick are not stored.
+    /// The zone whose server sent the response. Data that are out of bailiwick, which means not at
+    /// or below this zone, are not stored.
     pub zone: &'a Name<'a>,
-    /// When it arrived, or [`NOW`].
+    /// The timestamp at which the response arrived, or [`NOW`].
     pub moment: u64,
-    /// How long its data may be cached. A limit of 0 means the limit of the cache.
+    /// How long the data of the response may be cached. A limit of 0 means the limit of the cache.
     pub limits: Limits,
-    /// Whether an RRset with different TTLs is stored with the lowest of them if AA is clear.
-    /// Otherwise such an RRset is left out (RFC 2181 section 5.2).
+    /// Whether an RRset with different TTLs is stored, with the lowest of them, even if AA is
+    /// clear. If not, such an RRset is left out if AA is clear (RFC 2181 section 5.2).
     pub lowest_ttl: bool,
     /// Whether an authoritative NXDOMAIN clears the data of the denied name for the types A, AAAA
     /// and CNAME and for the type of the question.
@@ -91,8 +93,8 @@ impl<'a> Response<'a> {
 pub enum ResponseKind {
     /// The response has data of the type.
     Answer,
-    /// The response has data of the type, which are left out: their TTLs differ, AA is clear, and
-    /// [`lowest_ttl`](Response::lowest_ttl) is not set.
+    /// The response has data of the type, but these data are left out, because their TTLs differ,
+    /// AA is clear, and [`lowest_ttl`](Response::lowest_ttl) is not set.
     UnequalTtls,
     /// The name has no data of the type (RFC 2308 section 2.2).
     NoData,
@@ -101,8 +103,8 @@ pub enum ResponseKind {
     /// AA is clear, and the response names the servers of this zone, which is below the zone of the
     /// servers that were asked and contains the name.
     Referral(Name<'static>),
-    /// A CNAME chain leads to this name, which is out of bailiwick, or of which the response has no
-    /// data: query for it.
+    /// A CNAME chain leads to this name, which is out of bailiwick, or for which the response has
+    /// no data: query for this name.
     Alias(Name<'static>),
     /// The RCODE is neither NOERROR nor NXDOMAIN.
     Failure,
@@ -128,7 +130,7 @@ impl ResponseKind {
     }
 }
 
-/// Returns the name that the library made, in lower case, if it made one.
+/// Returns the name that the library made, in lower case, if the library made one.
 pub(crate) fn name_of(name: &ffi::rrcache_name) -> Option<Name<'_>> {
     match name.size {
         0 => None,
@@ -142,11 +144,11 @@ pub(crate) fn name_of(name: &ffi::rrcache_name) -> Option<Name<'_>> {
 pub struct Report {
     /// The kind of the response for its question.
     pub kind: ResponseKind,
-    /// The RCODE of its header, 0 to 15.
+    /// The RCODE in the header of the response, 0 to 15.
     pub rcode: u8,
     /// Whether AA is set.
     pub aa: bool,
-    /// Whether TC is set. Nothing was stored then: send the query again over TCP.
+    /// Whether TC is set. If so, nothing was stored: send the query again over TCP.
     pub tc: bool,
     /// The number of RRsets, negative answers and failures that were stored.
     pub kept: u64,

@@ -7,7 +7,7 @@ use std::fmt;
 use crate::ffi;
 
 /// Counters of a cache or of one shelf. Each name of a CNAME chain counts as one look-up. A look-up
-/// of a delegation counts one look-up for each name that it tries.
+/// of a delegation counts as one look-up for each name that it tries.
 ///
 /// The text of the counters is one line for a log, `hits 12 stale 0 ..`.
 #[repr(C)]

@@ -25,7 +25,8 @@ pub struct Set<'a> {
 }
 
 impl<'a> Set<'a> {
-    /// Makes an RRset of class IN for now, with the rank of an authoritative answer.
+    /// Makes an RRset of class IN with the timestamp [`NOW`] and the rank of an authoritative
+    /// answer.
     pub fn new(owner: &'a Name<'a>, rtype: RecordType, ttl: u32, data: &'a [&'a [u8]]) -> Set<'a> {
         let (class, trust) = (Class::In, Trust::AuthoritativeAnswer);
         Set { owner, rtype, class, trust, ttl, data, moment: NOW }
@@ -43,7 +44,7 @@ impl<'a> Set<'a> {
         Ok(octets)
     }
 
-    /// Returns the RRset for C, with these rdata.
+    /// Returns the RRset as a struct of C, with these rdata.
     pub(crate) fn raw(&self, data: &[u8]) -> ffi::rrcache_set {
         ffi::rrcache_set {
             owner: self.owner.wire().as_ptr(),
@@ -91,8 +92,8 @@ pub struct Negative<'a> {
 }
 
 impl<'a> Negative<'a> {
-    /// Makes a negative answer of class IN for now, with the rank of the authority section of an
-    /// authoritative response.
+    /// Makes a negative answer of class IN with the timestamp [`NOW`] and the rank of the authority
+    /// section of an authoritative response.
     pub fn new(
         name: &'a Name<'a>,
         denial: Denial,
@@ -136,14 +137,14 @@ pub struct Failure<'a> {
     pub rtype: RecordType,
     /// The class of the question.
     pub class: Class,
-    /// For how many seconds the failure is cached. With 0, the cached failure ends.
+    /// For how many seconds the failure is cached. With 0, a cached failure of the question ends.
     pub ttl: u32,
     /// The timestamp of the failure, or [`NOW`].
     pub moment: u64,
 }
 
 impl<'a> Failure<'a> {
-    /// Makes a failure of class IN for now.
+    /// Makes a failure of class IN with the timestamp [`NOW`].
     pub fn new(name: &'a Name<'a>, rtype: RecordType, ttl: u32) -> Failure<'a> {
         Failure { name, rtype, class: Class::In, ttl, moment: NOW }
     }

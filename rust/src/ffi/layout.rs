@@ -1,7 +1,7 @@
 // SPDX-License-Identifier: MIT
-//! What `ffi` declares, compared with the headers. A program in C, which `cc` compiles, prints the
-//! sizes and offsets of their structs and the numbers and texts of their enumerations. Another one
-//! has a pointer to each function, of the type that is declared here.
+//! Compares what `ffi` declares with the headers. A program in C, which `cc` compiles, prints the
+//! sizes and offsets of the structs of the headers, and the numbers and texts of the enumerations.
+//! Another program has a pointer to each function, of the type that is declared here.
 
 use std::any::type_name_of_val;
 use std::fmt::Write;
@@ -16,7 +16,8 @@ use crate::{Class, Error, Mode, Outcome, RrsetKind, Section, Trust};
 
 const INCLUDE: &str = concat!("-I", env!("CARGO_MANIFEST_DIR"), "/../include");
 
-/// What the compiler makes of a source with these words more: a file, in a folder of its own.
+/// Compiles a source with these additional arguments, and returns the file that the compiler makes
+/// in the folder.
 fn compiled(folder: &Path, source: &str, words: &[&str]) -> PathBuf {
     let (file, made) = (folder.join("source.c"), folder.join("made"));
     std::fs::create_dir_all(folder).unwrap();
@@ -33,12 +34,13 @@ fn compiled(folder: &Path, source: &str, words: &[&str]) -> PathBuf {
     made
 }
 
-/// A folder of a test.
+/// Returns the folder of a test.
 fn folder_of(name: &str) -> PathBuf {
     std::env::temp_dir().join(format!("rrcache-{name}-{}", std::process::id()))
 }
 
-/// What a program in C prints that prints each of these expressions by this format.
+/// Compiles and runs a program in C that prints each of these expressions in this format, and
+/// returns the lines that the program prints.
 fn printed(name: &str, format: &str, expressions: &[String]) -> Vec<String> {
     let mut source = "#include <rrcache.h>\n#include <stdio.h>\nint main(void) {\n".to_string();
     for expression in expressions {
@@ -51,14 +53,14 @@ fn printed(name: &str, format: &str, expressions: &[String]) -> Vec<String> {
     String::from_utf8(told.stdout).unwrap().lines().map(String::from).collect()
 }
 
-/// The compiler takes a source.
+/// Checks that the compiler accepts a source.
 fn accept(name: &str, source: &str) {
     let folder = folder_of(name);
     compiled(&folder, &format!("#include <rrcache.h>\n{source}"), &["-c"]);
     std::fs::remove_dir_all(&folder).unwrap();
 }
 
-/// Compares numbers with those that expressions have in C.
+/// Compares numbers with the values of expressions in C.
 fn compare(name: &str, numbers: &[(String, usize)]) {
     let expressions: Vec<_> =
         numbers.iter().map(|(it, _)| format!("(unsigned long long)({it})")).collect();
@@ -73,7 +75,7 @@ fn size_of_field<T, F>(_: fn(&T) -> &F) -> usize {
     size_of::<F>()
 }
 
-/// Sizes and offsets of structs, each as an expression in C and as a number here.
+/// The sizes and offsets of structs, each as an expression in C and as a number in Rust.
 macro_rules! layouts {
     ($($rust:ident $c:ident { $($field:ident)* })*) => {
         [$(
@@ -131,7 +133,8 @@ fn structs_are_laid_out_as_in_c() {
     );
 }
 
-/// The name that a choice has in C, in place of `{}` in a pattern: `NoStale` is `NO_STALE` there.
+/// Returns a pattern with the name that a choice has in C in place of `{}`. For example, `NoStale`
+/// is `NO_STALE` in C.
 fn in_c(choice: &str, pattern: &str) -> String {
     let mut name = String::new();
     for letter in choice.chars() {
@@ -144,7 +147,7 @@ fn in_c(choice: &str, pattern: &str) -> String {
     pattern.replace("{}", &name)
 }
 
-/// The enumerations, with the names and numbers that their choices are to have in C.
+/// The enumerations, with the names and numbers that their choices must have in C.
 fn enumerations() -> Vec<(&'static str, Vec<(String, usize)>)> {
     let named = |all: &[(&str, u32)], pattern| {
         all.iter().map(|&(name, number)| (in_c(name, pattern), number as usize)).collect()
@@ -177,7 +180,7 @@ fn numbers_are_those_of_c() {
     assert!(kinds(RrsetKind::ALL).eq(kinds(Kind::ALL)));
 }
 
-/// The compiler refuses a `switch` over an enumeration in which a case is missing.
+/// The compiler rejects a `switch` over an enumeration if a case is missing.
 #[test]
 fn no_number_of_c_is_missing() {
     let mut source = String::new();
@@ -197,7 +200,7 @@ fn texts_are_those_of_c() {
     assert_eq!(printed("texts", "%s", &expressions), wanted);
 }
 
-/// A type in C, by the name of the type in Rust.
+/// Returns the type in C for the name of a type in Rust.
 fn type_in_c(rust: &str) -> String {
     let rust = rust.trim();
     if let Some(pointed) = rust.strip_prefix("*mut ") {
@@ -219,7 +222,8 @@ fn type_in_c(rust: &str) -> String {
     }
 }
 
-/// A pointer to a function in C, by the name of the function's type in Rust.
+/// Returns the definition in C of a pointer to a function, from the name of the function and its
+/// type in Rust.
 fn pointer_in_c(name: &str, rust: &str) -> String {
     let sink =
         "unsafe extern \"C\" fn(*mut core::ffi::c_void, u64, *const core::ffi::c_void, usize) \
