@@ -29,10 +29,10 @@
      out of the shelf, and waits for the look-ups that have begun. No call holds locks of two
      shelves at the same time.
    - If a thread repeats a look-up within a second, and the name is in lower case, the library may
-     copy the answer from a memo, which is a saved copy of an earlier answer. It does so only as
-     long as nothing has changed in the shelf of the name. Only negative answers and answers with a
-     single RRset have memos. A look-up that a memo answers takes no place. Its result and its
-     effect on the counters are the same as without a memo.
+     copy the answer from a memo, which is a saved copy of an earlier answer. The library does so
+     only as long as nothing has changed in the shelf of the name. Only negative answers and answers
+     with a single RRset have memos. A look-up that a memo answers takes no place. Its result and
+     its effect on the counters are the same as without a memo.
    - ThreadSanitizer cannot see the locks of the built library. To run a program under
      ThreadSanitizer, compile the files of lib/ with the same sanitizer, and link them before the
      library.
@@ -58,10 +58,10 @@
      two and a half, and says what was not measured.
    - In addition, `rrcache_open` allocates the places, memos of answers, and a filter of the names
      that may be aliases. All memos together use at most 1/16 of `octets`, and at most about 235 KiB
-     for each place of a shelf (`readers`). This filter uses at most about 1/80 of `octets`, and at
-     most 128 KiB for each shelf. A second filter, of the names that may have a negative answer or a
-     failure, uses 2 to 4 octets for each key that `keys` allows, regardless of `octets`: 8 MiB with
-     the default number of keys. So if `octets` is small, set `keys` too.
+     for each place of a shelf (`readers`). The filter of aliases uses at most about 1/80 of
+     `octets`, and at most 128 KiB for each shelf. A second filter, of the names that may have a
+     negative answer or a failure, uses 2 to 4 octets for each key that `keys` allows, regardless of
+     `octets`: 8 MiB with the default number of keys. So if `octets` is small, set `keys` too.
    - A cache has at most 64 shelves of 65,536 keys, or 4,194,304 keys in all. An RRset of one
      address with a short name uses 320 octets. So a cache holds at most about 1.3 GB of such
      RRsets, even if `octets` is larger.
@@ -258,7 +258,7 @@ enum { RRCACHE_STATS_OCTETS = 384 };
 
 /* The callback to which `rrcache_stop_recording_all` and `rrcache_dump` write. Each call passes
    `size` octets of the text of one shelf; `shelf` is the number of that shelf, counted from 0. The
-   callback must process all these octets. It returns 0 to continue, and nonzero to stop. `state` is
+   callback must process all these octets, and returns 0 to continue or nonzero to stop. `state` is
    the pointer that the caller passed. During the callback, the library holds no lock of a shelf,
    but it holds the lock that guards the start and the end of recording. A call that takes this lock
    again would never return. So the callback must not call any function on this cache. The callback

@@ -23,11 +23,11 @@ class Cache(Closing):
     name under a seed chooses the shelf; the seed is random unless the caller passes one. `parts` is
     the number of shelves, `capacity` is the maximum number of keys in each shelf, and the other
     arguments are those of `Shelf`. Raises `BadRules` or `BadSeed` if an argument is out of range.
-    The cache keeps the folded form of recently used names.
+    The cache keeps recently used names in the library's form.
 
     New programs should use a `SharedCache`, in which several threads can look up names at the same
-    time, and which limits its memory. Unlike a `SharedCache`, a `Cache` returns a reply for each
-    name of a CNAME chain, and its calls accept a `line`.
+    time, and which limits its memory. A `Cache` returns a reply for each name of a CNAME chain, and
+    its calls are like those of a shelf, with a `line`.
 
     >>> with Cache(parts=4) as cache:
     ...     cache.ask("www.example.", 1, moment=1000).kind.name
@@ -63,7 +63,8 @@ class Cache(Closing):
 
     def _has_failed(self, name: AnyName, rtype: int, moment: int, purpose: Purpose | int,
                     rclass: Class | int) -> bool:
-        """Whether resolution of the question has failed recently, and no fresh answer is cached."""
+        """Returns whether resolution of the question has failed recently, and no fresh answer is
+        cached."""
         found, lock, shelf = self._found(name)
         with lock:
             return shelf.peek(found, rtype, moment, purpose, rclass=rclass).kind is Kind.FAILED

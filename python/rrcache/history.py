@@ -301,7 +301,7 @@ def _item(text: str) -> bytes:
 
 
 def fits(key: Key, body: Body) -> bool:
-    """Whether a body may be offered under a key."""
+    """Returns whether a body may be offered under a key."""
     if isinstance(body, RRset):
         owner = to_text(to_wire(body.owner).lower())
         return key.slot == Slot.SET and owner == key.name and body.ttl < 2 ** 31

@@ -157,8 +157,8 @@ class SharedCache(Closing):
         self.shelves = shelves or SHELVES
 
     def close(self) -> None:
-        """Closes the cache, and frees its memory when all running calls have ended. It may be
-        called more than once."""
+        """Closes the cache, and frees its memory when all running calls have ended. This method may
+        be called more than once."""
         self._handle = CLOSED
 
     # ---- looking up

@@ -73,7 +73,7 @@ class Shelf(Held):
     - `record`: whether the history is recorded from the start (`Shelf.record`).
 
     Names are text, octets in wire form, or the result of `make_name` under the seed of the shelf.
-    The shelf keeps the library's form of recently used names. Types and classes are 16-bit numbers.
+    The shelf keeps recently used names in the library's form. Types and classes are 16-bit numbers.
     TTLs and timestamps (`moment`) are in seconds, and a timestamp is at most 2^40. `line` is a
     64-bit number that the caller chooses. The history keeps this number with the event of the call.
     A number that is too large for its field raises `ValueError`.
@@ -249,8 +249,9 @@ class Shelf(Held):
             purpose: Purpose | int = Purpose.QUESTION, mode: Mode | int = Mode.NO_STALE,
             line: int = 0, rclass: Class | int = Class.IN) -> Reply:
         """Looks up the answer to a question, as one event. This call does not follow CNAME records:
-        to do so, use `ask_alias`. Raises `BadChoice` (the purpose or the mode), `BadType` if the
-        type is 0 or the class is not kept, `BadName`, `OtherSeed` or `MomentTooLarge`.
+        to find the CNAME record of an alias, use `ask_alias`. Raises `BadChoice` (the purpose or
+        the mode), `BadType` if the type is 0 or the class is not kept, `BadName`, `OtherSeed` or
+        `MomentTooLarge`.
 
         >>> with Shelf() as shelf:
         ...     _ = shelf.offer_set("www.example.", 1, Trust.AUTHORITY, 60, [bytes(4)], moment=1000)

@@ -5,7 +5,7 @@ use crate::choices::ResponseNumber;
 use crate::ffi;
 use crate::{Class, Limits, Name, RecordType, NOW};
 
-/// The query that a resolver sent, and that a response has to answer.
+/// The query that a response has to answer.
 #[derive(Clone, Copy, Debug)]
 pub struct Query<'a> {
     /// The name of the question.
