@@ -58,10 +58,10 @@
      two and a half, and says what was not measured.
    - In addition, `rrcache_open` allocates the places, memos of answers, and a filter of the names
      that may be aliases. All memos together use at most 1/16 of `octets`, and at most about 235 KiB
-     for each place of a shelf (`readers`). The filter of aliases uses at most about 1/80 of
-     `octets`, and at most 128 KiB for each shelf. A second filter, of the names that may have a
-     negative answer or a failure, uses 2 to 4 octets for each key that `keys` allows, regardless of
-     `octets`: 8 MiB with the default number of keys. So if `octets` is small, set `keys` too.
+     times `readers`. The filter of aliases uses at most about 1/80 of `octets`, and at most 128 KiB
+     for each shelf. A second filter, of the names that may have a negative answer or a failure,
+     uses 2 to 4 octets for each key that `keys` allows, regardless of `octets`: 8 MiB with the
+     default number of keys. So if `octets` is small, set `keys` too.
    - A cache has at most 64 shelves of 65,536 keys, or 4,194,304 keys in all. An RRset of one
      address with a short name uses 320 octets. So a cache holds at most about 1.3 GB of such
      RRsets, even if `octets` is larger.

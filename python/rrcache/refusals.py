@@ -46,8 +46,8 @@ class Status(IntEnum):
 class Refused(Exception):
     """The base class of all exceptions for a failed call. The call left the contents and the
     history unchanged, except in two cases. A call that stores a message may have made some of its
-    offers, which `counts` counts. A sweep may have made some of its steps, whose result `swept`
-    has. For all other calls, `counts` and `swept` are None.
+    offers, which `counts` counts. A sweep may have made some of its steps, whose result is in
+    `swept`. For all other calls, `counts` and `swept` are None.
 
     A library of a later minor version may return a status that this package does not know. In that
     case, `Refused` itself is raised, and `status` is a number."""

@@ -42,7 +42,7 @@ class Sizes(NamedTuple):
     """The sizes of a shelf: the number of keys (`keys`); the number of recorded events in the open
     chapter (`events`) and the number of closed chapters (`chapters`), both 0 while nothing is being
     recorded; and approximately how many octets of memory the keys use (`octets`). A key uses
-    `ENTRY_OCTETS` and in addition octets for
+    `ENTRY_OCTETS` and, in addition, these:
 
     - its name;
     - for an RRset, `SHARED_OCTETS` and the rdata of each record and, if there are several records,
@@ -143,7 +143,7 @@ class Limits(NamedTuple):
 
 
 class OfKind:
-    """What the kind of a reply says about the reply, and the kind of an answer about the answer."""
+    """Properties that follow from the kind of a reply or of an answer."""
 
     kind: Kind
 
