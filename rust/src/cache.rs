@@ -97,10 +97,11 @@ impl Cache {
     /// CNAME RRsets. For a question of type CNAME or ANY (RFC 1034 section 4.3.2), NSEC or RRSIG
     /// (RFC 4035 section 2.5), no CNAME record is followed.
     ///
-    /// With [`StaleIfFailed`](crate::Mode::StaleIfFailed), stale data are acceptable if resolution
-    /// of the question has failed recently, and this failure was stored after the CNAME record, if
-    /// any, of the question's name (RFC 8767 section 5). A look-up does not allocate memory unless
-    /// a history is being recorded.
+    /// With [`StaleIfFailed`](crate::Mode::StaleIfFailed), stale data are acceptable for every name
+    /// of the chain if resolution of the question has failed recently, and this failure was stored
+    /// after the CNAME record, if any, of the question's name (RFC 8767 section 5). Otherwise, they
+    /// are acceptable only for names for which resolution of the type has failed recently. A
+    /// look-up does not allocate memory unless a history is being recorded.
     ///
     /// Returns [`Small`](Error::Small) if the buffer of the answer is too small. The answer then
     /// has the RRsets that fit. After any other error the answer is empty.
