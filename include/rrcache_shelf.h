@@ -1971,7 +1971,7 @@ rrcache_sweep(struct rrcache_shelf *shelf, const struct rrcache_sweep_at *sweep,
 
 /* Writes to `moment` a timestamp before which no key of the shelf is fully expired. A sweep before
    this timestamp removes nothing, and a sweep at this timestamp may remove nothing. Before the
-   first sweep, the timestamp is the earliest time at which an entry that was stored so far is fully
+   first sweep, the timestamp is the earliest time at which any of the entries stored so far is fully
    expired. After a sweep, the timestamp is later than the timestamp of the sweep, until an offer is
    made or a chapter is closed. So if a loop sweeps at this timestamp until the timestamp is later
    than now, the loop always ends. The timestamp is UINT64_MAX if and only if the shelf holds no
@@ -2163,10 +2163,10 @@ static inline enum rrcache_status rrcache_write_line(struct rrcache_chapters *ch
     return RRCACHE_DONE;
 }
 
-/* Writes a chapter to `sink` as text, line by line, as `rrcache_write_line` does. Chapters are
-   counted from 0. The text of all chapters of one recording, in the order in which they were taken,
-   is an archive of the history. The sink must not make a call with the handle of these chapters.
-   Returns RRCACHE_NO_LINE if there is no such chapter. The other errors are those of
+/* Writes a chapter to `sink` as text: it writes each line as `rrcache_write_line` does. Chapters
+   are counted from 0. The text of all chapters of one recording, in the order in which they were
+   taken, is an archive of the history. The sink must not make a call with the handle of these
+   chapters. Returns RRCACHE_NO_LINE if there is no such chapter. The other errors are those of
    `rrcache_write_line`. Needs no lock. */
 static inline enum rrcache_status rrcache_write_chapter(struct rrcache_chapters *chapters,
                                                         uint64_t chapter, rrcache_sink sink,
