@@ -1219,9 +1219,10 @@ static inline size_t rrcache_put_owner(struct rrcache_draft *draft,
     return stands ? place : here;
 }
 
-/* Appends the records of an RRset, and returns their number. If the owner is the name of the
-   question, with letters in the same case, even the owner of the first record is a pointer to that
-   name. */
+/* Appends the records of an RRset, and returns their number. Records after the first have a
+   compression pointer as their owner, if a pointer can lead to the first owner. If the owner is the
+   name of the question, with letters in the same case, the first record has a pointer too, to the
+   name in the question. */
 static inline size_t rrcache_put_set(struct rrcache_draft *draft, const struct rrcache_query *query,
                                      const struct rrcache_parsed_set *set)
 {
@@ -1971,11 +1972,11 @@ rrcache_sweep(struct rrcache_shelf *shelf, const struct rrcache_sweep_at *sweep,
 
 /* Writes to `moment` a timestamp before which no key of the shelf is fully expired. A sweep before
    this timestamp removes nothing, and a sweep at this timestamp may remove nothing. Before the
-   first sweep, the timestamp is the earliest time at which any of the entries stored so far is fully
-   expired. After a sweep, the timestamp is later than the timestamp of the sweep, until an offer is
-   made or a chapter is closed. So if a loop sweeps at this timestamp until the timestamp is later
-   than now, the loop always ends. The timestamp is UINT64_MAX if and only if the shelf holds no
-   key. The call writes no event, and needs only the read lock. */
+   first sweep, the timestamp is the earliest time at which any of the entries stored so far is
+   fully expired. After a sweep, the timestamp is later than the timestamp of the sweep, until an
+   offer is made or a chapter is closed. So if a loop sweeps at this timestamp until the timestamp
+   is later than now, the loop always ends. The timestamp is UINT64_MAX if and only if the shelf
+   holds no key. The call writes no event, and needs only the read lock. */
 static inline enum rrcache_status rrcache_next_expiry(const struct rrcache_shelf *shelf,
                                                       uint64_t *moment)
 {
