@@ -136,12 +136,13 @@ def test_what_is_relevant_in_responses(octets, relevant):
 
 @pytest.mark.parametrize("name, rtype, sections, kept", [
     ("example", NS, [["example 60 NS b.example"], []], 2),
-    ("example", NS, [[], ["example 60 NS b.example"]], 2),
+    ("example", NS, [[], ["example 60 NS b.example"]], 0),
     ("example", DS, [[f"example 60 DS {DIGEST}"], []], 0),
     ("a.example", DS, [[f"a.example 60 DS {DIGEST}"], []], 1)])
 @pytest.mark.parametrize("flags", [AA, 0])
 def test_what_is_relevant_to_questions_about_a_zone(name, rtype, sections, kept, flags):
-    """Its servers with the address of one, in either section, and the keys of one below."""
+    """Its servers with the address of one, which count in the answer section, and the keys of the
+    zone and of one below."""
     answer, authority = sections
     octets = answered(name, rtype, *answer, authority=authority, additional=hosts("b.example"),
                       flags=flags)
