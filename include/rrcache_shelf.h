@@ -1405,13 +1405,13 @@ static inline enum rrcache_status rrcache_can_read(const struct rrcache_response
    These RRsets are not relevant:
    - A DS RRset whose owner is `zone` itself, because the DS RRset of a zone is in the parent zone
      (RFC 4035 section 2.4).
-   - An NS RRset of the authority section, unless the response is a referral (RFC 1034 section
-     4.3.2), which means that AA is clear and the owner of the NS RRset is below `zone`. So the
-     servers of a zone cannot renew the delegation of this zone. But a repeated referral renews its
-     NS RRset. If a caller wants a delegation to end with its first TTL, it peeks for the NS RRset
-     of a referral before it makes the offers of the referral. If an unexpired NS RRset with the
-     same data is cached, the caller does not make the offers for the part to which the owner of
-     this RRset belongs.
+   - An NS RRset of the authority section, unless the question asks for this RRset or the response
+     is a referral (RFC 1034 section 4.3.2), which means that AA is clear and the owner of the NS
+     RRset is below `zone`. So the servers of a zone renew the delegation of this zone only if they
+     are asked for its NS RRset. But a repeated referral renews its NS RRset. If a caller wants a
+     delegation to end with its first TTL, it peeks for the NS RRset of a referral before it makes
+     the offers of the referral. If an unexpired NS RRset with the same data is cached, the caller
+     does not make the offers for the part to which the owner of this RRset belongs.
    - An RRset with more than 16,384 octets of rdata.
    - In class IN, an RRset of type A with rdata that are not 4 octets long, or an RRset of type AAAA
      with rdata that are not 16 octets long.

@@ -136,13 +136,14 @@ def test_what_is_relevant_in_responses(octets, relevant):
 
 @pytest.mark.parametrize("name, rtype, sections, kept", [
     ("example", NS, [["example 60 NS b.example"], []], 2),
-    ("example", NS, [[], ["example 60 NS b.example"]], 0),
+    ("example", NS, [[], ["example 60 NS b.example"]], 2),
+    ("EXAMPLE", NS, [[], ["example 60 NS b.example"]], 2),
+    ("c.example", NS, [[], ["example 60 NS b.example"]], 0),
     ("example", DS, [[f"example 60 DS {DIGEST}"], []], 0),
     ("a.example", DS, [[f"a.example 60 DS {DIGEST}"], []], 1)])
 @pytest.mark.parametrize("flags", [AA, 0])
 def test_what_is_relevant_to_questions_about_a_zone(name, rtype, sections, kept, flags):
-    """Its servers with the address of one, which count in the answer section, and the keys of the
-    zone and of one below."""
+    """Its servers with the address of one, in either section, and the keys of one below."""
     answer, authority = sections
     octets = answered(name, rtype, *answer, authority=authority, additional=hosts("b.example"),
                       flags=flags)
@@ -247,7 +248,7 @@ def test_when_a_delegation_ends(octets, zone, offer, ends):
 @pytest.mark.parametrize("rtype", [A, NS])
 def test_what_a_minimized_query_renews(rtype):
     """The servers of the zone deny that a name below it has data of the type, and add their NS
-    RRset. That never counts."""
+    RRset, which was not asked for."""
     query = rrcache.Query("x.z.example", rtype, ID)
     octets = answered("x.z.example", rtype, authority=["z." + SOA_RECORD, *SERVERS])
 

@@ -59,10 +59,15 @@ has_below (Some name) offer = is_at_or_below name offer.key.name
 unfoldable pub is_of_final_zone : Option (List ℕ) → OfferOf → Bool
 is_of_final_zone final offer = (is_set_of 6 offer || (is_set_of 2 offer || is_set_of 43 offer)) && has_below final offer
 
+-- whether an offer is the NS RRset that was asked for
+abbrev pub is_asked_servers : Message → OfferOf → Bool
+is_asked_servers message offer = message.question.qtype == 2 && same_name message.question.name offer.key.name
+
 -- whether an RRset of the authority section is no NS RRset, or is that of a referral (RFC 1034 4.3.2), which has AA clear and leads below
--- the zone
+-- the zone, or was itself asked for
 unfoldable pub may_refer : Message → List ℕ → OfferOf → Bool
-may_refer message zone offer = not (is_set_of 2 offer) || (not message.aa && not (same_name zone offer.key.name))
+may_refer message zone offer =
+    not (is_set_of 2 offer) || (is_asked_servers message offer || (not message.aa && not (same_name zone offer.key.name)))
 
 -- whether two offers are of one type
 abbrev pub same_type : OfferOf → OfferOf → Bool

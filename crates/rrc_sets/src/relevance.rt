@@ -15,8 +15,9 @@ pub struct RelevanceLimits {
     /// The most octets of the rdata of an RRset, all together: by default 16,384.
     pub octets: u32,
     /// Whether NS RRsets of the authority section are relevant in referrals alone (RFC 1034 section
-    /// 4.3.2): where AA is clear and their owner is below the zone. By default so: else the servers
-    /// of a zone may prolong its delegation, also one that its parent has ended.
+    /// 4.3.2): where AA is clear and their owner is below the zone; or where they were themselves
+    /// asked for. By default so: else the servers of a zone may prolong its delegation, also one
+    /// that its parent has ended.
     pub only_referrals: bool,
     /// Whether an RRset whose records have different TTLs is relevant where AA is clear, with the
     /// lowest of them. By default it is not: RFC 2181 section 5.2 has a reply that is not

@@ -8,7 +8,7 @@ ghost use Rattle.rrc_sets.specs.Kept.{IsOfRecords};
 ghost use Rattle.rrc_sets.specs.Response.{of_response};
 ghost use Rattle.rrc_sets.specs.Offers.{section_offers, offers_of};
 ghost use Rattle.rrc_sets.specs.Queries.{mismatch};
-ghost use Rattle.rrc_sets.specs.Relevant.{HasWithin, may_come_from, is_owned_by, is_above, is_asked_for, is_on_chain, has_below, is_of_final_zone, may_refer, same_type, is_address_of, relevant_answer, relevant_authority, relevant_additional, relevant_offers, relevant_of, offers_by};
+ghost use Rattle.rrc_sets.specs.Relevant.{HasWithin, may_come_from, is_owned_by, is_above, is_asked_for, is_on_chain, has_below, is_of_final_zone, is_asked_servers, may_refer, same_type, is_address_of, relevant_answer, relevant_authority, relevant_additional, relevant_offers, relevant_of, offers_by};
 
 use crate::alias::{final_name, question_names, same};
 use crate::class::in_own_class;
@@ -91,14 +91,23 @@ fn is_of_final_zone(name: &Option<Name>, offer: &Offer) -> bool
         && has_below(name, offer)
 }
 
+/// Whether an offer is the NS RRset that was asked for. A question of type NS may also be about a
+/// name below the zone, and then the zone's own NS RRset was not asked for.
+fn is_asked_servers(message: &Message, offer: &Offer) -> bool
+    ensures { result ≡ is_asked_servers message.now offer.now }
+{
+    message.question.qtype == NS && message.question.name.same(&offer.key.name)
+}
+
 /// Whether an RRset of the authority section is no NS RRset, or is that of a referral (RFC 1034
-/// section 4.3.2), which has AA clear and leads below the zone. Even a question of type NS changes
-/// nothing: it may be about a name below the zone.
+/// section 4.3.2), which has AA clear and leads below the zone, or was itself asked for.
 #[tactic(auto, unfolding(crate::specs::Relevant::may_refer))]
 fn may_refer(message: &Message, zone: &Name, offer: &Offer) -> bool
     ensures { result ≡ may_refer message.now zone.now offer.now }
 {
-    !is_set_of(NS, offer) || (!message.aa && !zone.same(&offer.key.name))
+    !is_set_of(NS, offer)
+        || is_asked_servers(message, offer)
+        || (!message.aa && !zone.same(&offer.key.name))
 }
 
 /// Whether the owner of an offer is one of these hosts.
@@ -276,8 +285,8 @@ fn relevant_of(
 ///   have the type that was asked for or are CNAME records, and the DNAME records above such a
 ///   name;
 /// - of the authority section the first SOA record, the first NS and the first DS RRset of a zone
-///   that the final name is in, where an NS RRset is that of a referral, unless the limits say that
-///   any will do (`only_referrals`, RFC 1034 section 4.3.2);
+///   that the final name is in, where an NS RRset is that of a referral or was itself asked for,
+///   unless the limits say that any will do (`only_referrals`, RFC 1034 section 4.3.2);
 /// - of the additional section the addresses of hosts that NS, MX and SRV records among these name:
 ///   those of NS records count first, and each counts once;
 /// - the negative answer, and the failure;
