@@ -13,14 +13,14 @@
    shelves, fewer threads wait for the same lock. For a program with one thread, one shelf without a
    lock is enough.
 
-   This header uses these terms. A *key* is a name and a class with a type (for an RRset or NODATA),
-   without a type (for an NXDOMAIN), or with a type that failed (for a resolution failure). An
-   *entry* is what a key holds. To *offer* data is to pass them to a shelf, which decides whether it
-   stores them (`enum rrcache_outcome`). An *ask* looks up an answer, and moves the entry that gives
-   the answer to the front of the LRU order. A *peek* looks up an answer and changes nothing. A
-   *part* consists of all names that belong to one shelf, and has the same number as the shelf,
-   counted from 0. A type or a class is *kept* if the library stores its data; data of all other
-   types and classes are skipped.
+   This header uses these terms. There are three kinds of *key*: a name, a class and a type, for the
+   RRset or NODATA of this type; a name and a class, for the NXDOMAIN; and a name, a class and a
+   type, for the resolution failure of this type. An *entry* is what a key holds. To *offer* data is
+   to pass them to a shelf, which decides whether it stores them (`enum rrcache_outcome`). An *ask*
+   looks up an answer, and moves the entry that gives the answer to the front of the LRU order. A
+   *peek* looks up an answer and changes nothing. A *part* consists of all names that belong to one
+   shelf, and has the same number as the shelf, counted from 0. A type or a class is *kept* if the
+   library stores its data; data of all other types and classes are skipped.
 
    docs/RULES.md describes the rules of the cache. Some names in this header differ from the terms
    on that page: a `moment` is a timestamp, `trust` is a rank, `left` is a remaining TTL, and `data`
@@ -62,8 +62,8 @@
      no handle and need no lock.
    - No call waits, sleeps or takes a lock, unless malloc, realloc, free or the sink of the caller
      does so. Only `rrcache_write_line` and `rrcache_write_chapter` call a function of the caller:
-     the sink that they are given. Do not call any function in a signal handler, or in the child
-     process after a process with several threads has called fork.
+     the sink that they are given. Do not call a function of the library in a signal handler or,
+     after a process with several threads has called fork, in the child process.
 
    Memory
    - The library allocates memory only with malloc and realloc, and frees it only with free. If an
@@ -84,19 +84,19 @@
      the caller forgot to set the field. For the functions of rrcache.h, a seed or a limit of 0
      means the default.
    - If a call fails, the history of the shelf and the replies that the shelf gives are unchanged.
-     If the shelf records, the call may have closed a full chapter. Five functions are exceptions,
-     because they may have done part of their work when they fail: `rrcache_offer_read`,
-     `rrcache_offer_message_unchecked`, `rrcache_offer_part_unchecked`, `rrcache_sweep_some` and
-     `rrcache_trim`. These functions make several offers, sweeps or evictions, one after another. If
-     one of these steps fails, the earlier steps are not undone. `counts` then has the numbers of
-     the earlier offers with each outcome, and `swept` has the number of keys that the earlier
-     sweeps removed. If `rrcache_write_chapter` or `rrcache_write_line` fails, it may have written
-     the beginning of its text.
+     If the shelf records, the call may still have closed a full chapter, which changes neither the
+     history nor the replies. Five functions are exceptions, because they may have done part of
+     their work when they fail: `rrcache_offer_read`, `rrcache_offer_message_unchecked`,
+     `rrcache_offer_part_unchecked`, `rrcache_sweep_some` and `rrcache_trim`. These functions make
+     several offers, sweeps or evictions, one after another. If one of these steps fails, the
+     earlier steps are not undone. `counts` then says how many of the earlier offers had each
+     outcome, and `swept` says how many keys the earlier sweeps removed. If `rrcache_write_chapter`
+     or `rrcache_write_line` fails, it may have written the beginning of the text.
    - If `rrcache_take_chapters` fails, the chapters stay in the shelf. If `rrcache_stop_recording`
      fails, the shelf continues to record.
-   - If a call fails, its outputs are unmodified, except `counts` and `swept`, and after
-     RRCACHE_SMALL also `told`, `name` and `size`. After RRCACHE_NULL, RRCACHE_OVERLAP,
-     RRCACHE_NO_SHELF and RRCACHE_NO_OFFERS, these outputs are unmodified too.
+   - If a call fails, its outputs are unmodified, except `counts` and `swept` and, after
+     RRCACHE_SMALL, `told`, `name` and `size`. After RRCACHE_NULL, RRCACHE_OVERLAP, RRCACHE_NO_SHELF
+     and RRCACHE_NO_OFFERS, `counts` and `swept` are unmodified too.
 
    A message about names in several shelves
    - A response may have data of names that are not in the shelf of the question's name, such as the
@@ -108,9 +108,10 @@
      offer everything that was read. The data of each name are then in the shelf that
      `rrcache_make_name` determines for this name with the same `struct rrcache_parts`. A shelf that
      the message does not concern gets no event.
-   - `rrcache_offer_part_unchecked` reads a message and offers the data of one shelf, all in one
-     call. For several shelves, several calls are needed, and each of them reads the whole message
-     under the lock of its shelf. So use this function only to offer the data of one shelf.
+   - `rrcache_offer_part_unchecked` reads a message and, in the same call, offers to one shelf the
+     data of the names in this shelf. For several shelves, several calls are needed, and each of
+     them reads the whole message under the lock of its shelf. So use this function only if data are
+     to be offered to a single shelf.
    - To follow a CNAME chain from shelf to shelf, call `rrcache_ask_alias` for each name of the
      chain, under the lock of that name's shelf. The caller must limit the number of CNAME records
      that it follows. This limit also ends loops. Each RRset of the chain has its own TTL.
@@ -130,11 +131,13 @@
      the message with a query. The caller must check the addresses and ports, the identifier and the
      question of the message before it calls such a function.
    - A truncated message (TC, the bit 0x02 of the third octet, is set) offers nothing (RFC 2181
-     section 9). If the message can be read, the call returns RRCACHE_DONE, all fields of `counts`
-     are 0, no event is written, and `rrcache_tell_response` reports that TC is set. If the message
-     ends inside a record, the call returns RRCACHE_BAD_MESSAGE, as it does if TC is clear. So the
-     caller must check TC first and, if TC is set, send the query again over TCP. Over TCP, a length
-     of two octets precedes each message: do not pass these two octets to the library.
+     section 9). If the message can be read, the call that reads it returns RRCACHE_DONE, all fields
+     of `counts` are 0, no event is written, and `rrcache_tell_response` reports that TC is set. If
+     the message ends inside a record, the call returns RRCACHE_BAD_MESSAGE. In either case, the
+     caller must send the query again over TCP. The call also returns RRCACHE_BAD_MESSAGE for a
+     message that ends inside a record and has TC clear, so the caller must check TC before it
+     treats this error as a failure of the server. Over TCP, a length of two octets precedes each
+     message: do not pass these two octets to the library.
    - A message also offers nothing if its opcode is not QUERY, if the class of its question is not
      kept, or if the name of its question is out of bailiwick.
    - The kept classes are IN, CH and HS (RFC 1035 section 3.2.4). docs/RULES.md lists the kept
@@ -142,28 +145,29 @@
      the class of the question. Data of type A in class CH are not kept, because these rdata begin
      with a name. It is an error to ask for a class that is not kept, or for type 0. A question for
      any other type that is not kept is allowed: the reply is a miss, or RRCACHE_NXDOMAIN if an
-     NXDOMAIN of the name is cached. For type ANY, this applies even if RRsets of the name that have
-     a higher rank than the NXDOMAIN are cached.
-   - Even after a message that answers its question was offered, the next ask for this question may
-     be a miss. There are five possible causes: the TTL is 0; the type is not kept; the records of
-     an RRset have different TTLs, AA is clear and `lowest_ttl` is not set; a negative answer has no
-     SOA record; or the RRset is not relevant. `rrcache_tell_response` still returns the kind of the
-     response, and `rrcache_tell_offer` returns even an RRset with TTL 0. The caller answers the
-     waiting client from the output of these calls. The caller has to read the message itself only
-     to get data that are not offered, such as data of a type that is not kept.
+     unexpired NXDOMAIN of the name is cached. For type ANY, such an NXDOMAIN gives the reply even
+     if unexpired RRsets of the name with a higher rank are cached too.
+   - Even if a message that answers its question has just been offered, the next ask for this
+     question may be a miss. Apart from evictions, there are five possible causes: the TTL is 0; the
+     type is not kept; the records of an RRset have different TTLs, AA is clear and `lowest_ttl` is
+     not set; a negative response has no SOA record; or the RRset is not relevant.
+     `rrcache_tell_response` still returns the kind of the response, and `rrcache_tell_offer`
+     returns even an RRset with TTL 0. The caller answers the waiting client from the output of
+     these calls. The caller has to read the message itself only to get data that are not offered,
+     such as data of a type that is not kept.
    - If nothing is stored from a message that answers its question, a failure that is cached for the
      question is still returned as RRCACHE_FAILED until the failure expires. `rrcache_offer_failure`
      with `ttl` 0 ends the failure.
-   - A message from which nothing is stored does not change a cached RRset either, unless it offers
-     the RRset with TTL 0. This RRset may still be returned, even stale. But RFC 8767 section 4
-     counts the RRset as refreshed if the message is an authoritative response (AA set) with RCODE
-     NOERROR or NXDOMAIN. After such a message, the resolver clears the RRset: it calls
-     `rrcache_offer_set` with `ttl` 0.
+   - A message from which nothing is stored does not change a cached RRset either, unless the
+     message offers the RRset with TTL 0. The unchanged RRset may still be returned, even stale. But
+     RFC 8767 section 4 counts the RRset as refreshed if the message is an authoritative response
+     (AA set) with RCODE NOERROR or NXDOMAIN. After such a message, the resolver clears the RRset:
+     it calls `rrcache_offer_set` with `ttl` 0.
    - A response with an RCODE other than NOERROR and NXDOMAIN offers a failure of its question, even
-     if the RCODE is FORMERR, NOTIMP or REFUSED. From then on, until the failure expires or a later
-     entry for the question is stored, the reply to the question is RRCACHE_FAILED if no cached data
-     may answer. So offer such a response only when the resolver has no other server left to ask,
-     and no retry without EDNS left to make.
+     if the RCODE is FORMERR, NOTIMP or REFUSED. Once the failure is stored, the reply to the
+     question is RRCACHE_FAILED if no cached data may answer, until the failure expires or a later
+     entry for the question is stored. So offer such a response only when the resolver has no other
+     server left to ask, and no retry without EDNS left to make.
    - A message may have more new keys than the shelf has room for. The later keys of the message
      then evict some of its earlier keys.
 
@@ -178,15 +182,16 @@
      data expire early, and a sweep then removes entries that are fully expired according to that
      clock. Use a clock that cannot be set, and that keeps running while the machine is suspended.
      On Linux, CLOCK_BOOTTIME is such a clock, but CLOCK_MONOTONIC stops during suspension.
-   - The order of the calls, not their timestamps, decides which of two events is later.
+   - The order of the calls, not the order of their timestamps, decides which of two events is
+     later.
    - An entry has expired when its age is at least its TTL. An entry is *fully expired* when it can
      no longer answer: a negative answer or a failure as soon as it has expired, and an RRset
      `max_stale` seconds after it has expired.
 
    History and chapters
    - The history of a shelf is a log of events. Each ask, sweep or offer that is made without an
-     error is one event, even an offer that is outranked. A message causes one event for each of its
-     offers that is made. A trim causes one or two events for each key that it removes.
+     error is one event, even an offer that is outranked. A message causes one event for each offer
+     that is made from it. A trim causes one or two events for each key that it removes.
    - A new shelf does not record its history. While a shelf does not record, its events are numbered
      but use no memory, no chapter becomes full or is closed, and there are no chapters to drop.
      `rrcache_record` starts recording: from then on, the shelf keeps events in memory.
@@ -200,12 +205,13 @@
      the next one, under the lock. A call that offers a message may do this before each of the
      offers. No reply depends on where chapters end.
    - The time to close a chapter grows with the number of keys that the shelf holds, and with the
-     number of keys that it held when the chapter began. The call writes 16 octets for each key, and
-     copies an entry of 56 octets for each key that has been used since the chapter began. At the
-     end of the first chapter, the call copies the entries of all keys. The call also copies the
-     entries of all keys if, during the chapter, there were more uses and removals of keys than
-     there were keys when the chapter began. Names, data and events are not copied. A good value of
-     `chapter`, the maximum number of events in a chapter, is about the number of keys in the shelf.
+     number of keys that it held when the chapter began. The call that closes the chapter writes 16
+     octets for each key, and copies an entry of 56 octets for each key that has been used since the
+     chapter began. At the end of the first chapter, the call copies the entries of all keys. The
+     call also copies the entries of all keys if, during the chapter, there were more uses and
+     removals of keys than there were keys when the chapter began. Names, data and events are not
+     copied. A good value of `chapter`, the maximum number of events in a chapter, is about the
+     number of keys in the shelf.
    - A caller that records a history should regularly take the closed chapters with
      `rrcache_take_chapters`, or drop them with `rrcache_drop_chapters`. The time to take chapters
      does not depend on their number. Dropping chapters frees all their events, and all copied
@@ -243,24 +249,25 @@
      RRCACHE_NO_SHELF, RRCACHE_NO_OFFERS or RRCACHE_NO_CHAPTERS if the handle holds nothing. Calls
      that allocate memory return RRCACHE_MEMORY if malloc fails. Calls that write an event return
      RRCACHE_HISTORY_FULL if numbers are used up, and RRCACHE_MOMENT_TOO_LARGE if the timestamp is
-     above 2^40. Most comments of the functions do not repeat these conditions.
+     above 2^40. The comments of most functions do not repeat these conditions.
 
    Names are in wire form (RFC 1035 section 3.1): complete, without compression pointers, and at
    most 255 octets long, including the zero octet at the end. Letters may be in upper or lower case.
-   The field `line` of a struct is any number that the caller chooses; the shelf keeps this number
-   with the event of the call. A pointer to octets or to an array may be null only if its size is 0.
+   Except in `struct rrcache_place`, the field `line` of a struct is any number that the caller
+   chooses; the shelf keeps this number with the event of the call. A pointer to octets or to an
+   array may be null only if the size that is passed with the pointer is 0.
 
    The names of the exported functions that this header declares begin with `rrc_`. These functions
    require pointers that are not null, and buffers that do not overlap. The inline functions below
-   check these conditions and then call an exported function. Only `rrcache_compose_response`,
-   `rrcache_tell_octets` and `rrcache_status_text` call none.
-   An inline function returns RRCACHE_NULL if a required pointer is null. It returns RRCACHE_OVERLAP
-   if anything that it writes, including the handle, overlaps octets or an array that it reads.
-   Inputs may overlap each other. A struct that contains pointers, such as
-   `struct rrcache_response`, may also overlap an output, and so may a struct that is passed
-   together with such a struct. The function reads these structs before it writes anything. The
-   library cannot check whether a handle or a name was initialized to zeros, whether two threads use
-   one handle, or whether a buffer is as large as its size says. */
+   check these conditions and then call an exported function. Among the functions that a resolver
+   calls, only `rrcache_compose_response`, `rrcache_tell_octets` and `rrcache_status_text` call no
+   exported function. An inline function returns RRCACHE_NULL if a required pointer is null. It
+   returns RRCACHE_OVERLAP if anything that it writes, including the handle, overlaps another output
+   or an input, with one exception: a struct that contains pointers, such as
+   `struct rrcache_response`, may overlap an output, and so may a struct that is passed together
+   with such a struct, because the function reads these structs before it writes anything. Inputs
+   may overlap each other. The library cannot check whether a handle or a name was initialized to
+   zeros, whether two threads use one handle, or whether a buffer is as large as its size says. */
 #ifndef RRCACHE_SHELF_H
 #define RRCACHE_SHELF_H
 
@@ -317,8 +324,8 @@ enum rrcache_status {
                                      off */
     RRCACHE_WRONG_BODY = 14,      /* an RRset has no data, or a TTL is above 2^31 - 1 */
     RRCACHE_WIDE = 15,            /* a record of the reply has more than 65,535 octets of rdata,
-                                     which is too many for any message, or all its records together
-                                     have at least 2^64 octets of rdata */
+                                     which is too many for any message, or all records of the reply
+                                     together have at least 2^64 octets of rdata */
     RRCACHE_SMALL = 16,           /* the buffer is too small: `told` or `size` has the required
                                      size, and no event was written */
     RRCACHE_NULL = 17,            /* a required pointer is null (never returned by `rrc_`
@@ -356,7 +363,7 @@ enum rrcache_kind {
     RRCACHE_FAILED = 6    /* the cache holds nothing that may answer, and it holds a recent failure:
                              a failure that is unexpired, and that was stored later than all other
                              entries for the question. A resolver answers with SERVFAIL until
-                             `retry_from` (RFC 9520) */
+                             `retry_from` (RFC 9520). As the kind of an entry, any failure */
 };
 
 /* The classes whose data are kept (RFC 1035 section 3.2.4). */
@@ -368,8 +375,8 @@ enum rrcache_class { RRCACHE_IN = 1, RRCACHE_CH = 3, RRCACHE_HS = 4 };
 enum rrcache_purpose { RRCACHE_ANYTHING = 1, RRCACHE_QUESTION = 2 };
 
 /* When a stale answer is acceptable (RFC 8767 section 5). RRCACHE_NO_STALE: never.
-   RRCACHE_STALE_IF_FAILED: only if a failure is recent, so that a miss would be RRCACHE_FAILED.
-   RRCACHE_STALE_NOW: with or without a failure. */
+   RRCACHE_STALE_IF_FAILED: only if a failure is recent, which means that a miss would be
+   RRCACHE_FAILED. RRCACHE_STALE_NOW: with or without a failure. */
 enum rrcache_mode { RRCACHE_NO_STALE = 1, RRCACHE_STALE_IF_FAILED = 2, RRCACHE_STALE_NOW = 3 };
 
 /* The rank of data (RFC 2181 section 5.4.1), from low to high. */
@@ -416,7 +423,8 @@ enum rrcache_response_kind {
                                       below the zone of the server and contains the name (RFC 1034
                                       section 4.3.2) */
     RRCACHE_RESPONSE_ALIAS = 6,    /* a CNAME chain leads to a name that is out of bailiwick, or for
-                                      which the response has no data: send a query for that name */
+                                      which the response neither has data nor denies that there are
+                                      data: send a query for that name */
     RRCACHE_RESPONSE_FAILURE = 7,  /* the RCODE is neither NOERROR nor NXDOMAIN */
     RRCACHE_RESPONSE_UNUSABLE = 8  /* none of the kinds above: TC is set, the opcode is not QUERY,
                                       the class of the question is not kept, the name of the
@@ -480,7 +488,7 @@ struct rrcache_name {
 /* How names are divided among shelves: `count` is the number of shelves, 1 to 64, and `seed` is the
    seed in the rules of these shelves. The library hashes names with SipHash-1-3, using the seed as
    the key, and the upper 32 bits of the hash determine the shelf. Under another seed, a name may
-   belong to another shelf, so the data of the name are not found. */
+   belong to another shelf, in which the data of the name would not be found. */
 struct rrcache_parts {
     uint64_t count;
     uint8_t seed[16];
@@ -551,8 +559,8 @@ struct rrcache_told {
 /* What a response says apart from its offers. */
 struct rrcache_summary {
     uint32_t kind; /* enum rrcache_response_kind */
-    uint8_t rcode; /* the RCODE of the header, 0 to 15; the upper bits in an OPT record are not
-                      read */
+    uint8_t rcode; /* the RCODE of the header, 0 to 15; the upper bits that an OPT record may add to
+                      it are not read */
     bool aa;
     bool tc;
 };
@@ -587,8 +595,8 @@ struct rrcache_limits {
         604800, 10800, 30                                                                          \
     }
 
-/* When to sweep. `rrcache_sweep_some` stops when it has removed at least `most` keys or made `most`
-   sweeps. */
+/* When to sweep. `rrcache_sweep_some` stops, at the latest, when it has removed at least `most`
+   keys or made `most` sweeps. */
 struct rrcache_sweep_at {
     uint64_t moment;
     uint64_t line;
@@ -631,14 +639,14 @@ struct rrcache_share {
     uint64_t line;
 };
 
-/* Which one of the offers of a message to make. Offers are counted from 0. */
+/* Which offer of a message to make. Offers are counted from 0. */
 struct rrcache_offer_pick {
     uint64_t index;
     uint64_t line;
 };
 
-/* A position in the text of chapters: a chapter, a line of this chapter, and an octet of this line,
-   each counted from 0. */
+/* A position in the text of the chapters of a handle: a chapter, a line of this chapter, and an
+   octet of this line, each counted from 0. */
 struct rrcache_place {
     uint64_t chapter;
     uint64_t line;
@@ -652,7 +660,7 @@ struct rrcache_line {
 };
 
 /* ---- Arguments of functions. The field after each pointer to octets has the number of these
-   octets. Use designated initializers for such a struct: the fields that you leave out are then 0.
+   octets. Use designated initializers for these structs: the fields that you leave out are then 0.
 
    All structs of this header and of rrcache.h are part of the ABI of the library, because exported
    functions read or write them. These structs keep their size and their fields in all versions with
@@ -682,9 +690,10 @@ struct rrcache_response {
     size_t zone_size;
     uint64_t moment;
     struct rrcache_limits limits;
-    bool lowest_ttl;    /* whether an RRset whose records have different TTLs is offered with the
-                           lowest of these TTLs if AA is clear, as other resolvers do. If this field
-                           is not set, such an RRset is left out (RFC 2181 section 5.2) */
+    bool lowest_ttl;    /* for a response with AA clear: whether an RRset whose records have
+                           different TTLs is offered, with the lowest of these TTLs. Other resolvers
+                           store such an RRset with this TTL. If this field is not set, such an
+                           RRset is left out (RFC 2181 section 5.2) */
     bool clears_denied; /* whether an authoritative NXDOMAIN clears the data of the denied name for
                            the types A, AAAA and CNAME and for the type of the question. If this
                            field is not set, data that were stored before the NXDOMAIN may answer
@@ -983,7 +992,7 @@ static inline const char *rrcache_status_text(enum rrcache_status status)
     return "no such status";
 }
 
-/* Returns the pointer to some octets or, if there are none, a pointer that is not null. */
+/* Returns `octets` or, if `size` is 0, a pointer that is not null. */
 static inline const uint8_t *rrcache_octets(const uint8_t *octets, size_t size)
 {
     static const uint8_t none = 0;
@@ -1125,9 +1134,9 @@ static inline bool rrcache_is_whole(const struct rrcache_parsed_set *set)
     return at == set->data_size;
 }
 
-/* Checks the pointers of a parsed response. Returns RRCACHE_NULL if a required pointer is null, and
-   RRCACHE_OVERLAP if an output overlaps the other output, or octets or an array that the call
-   reads. */
+/* Checks the pointers that `rrcache_compose_response` is given. Returns RRCACHE_NULL if a required
+   pointer is null, and RRCACHE_OVERLAP if one of the two outputs overlaps the other, or overlaps
+   octets or an array that the call reads. */
 static inline enum rrcache_status rrcache_can_compose(const struct rrcache_query *query,
                                                       const struct rrcache_parsed_response *parsed,
                                                       const uint8_t *buffer, size_t room,
@@ -1289,8 +1298,8 @@ static inline size_t rrcache_put_response(const struct rrcache_query *query,
 /* Makes a message (RFC 1035 section 4) from a response that a resolver parsed itself. The call
    writes the message to the front of a buffer, and the number of its octets to `size`. The caller
    then passes the message to `rrcache_read_response`, with the same query, like any other response.
-   So the relevance, ranks, negative answers, referrals and failures are those of the parsed
-   response. The call never allocates and needs no lock, and its time is linear in the number of
+   So the rules on relevance, ranks, negative answers, referrals and failures apply to the parsed
+   response too. The call never allocates and needs no lock, and its time is linear in the number of
    octets of its arguments.
 
    The caller must first compare the response with its query (RFC 5452 section 9.1): QR, the opcode,
@@ -1363,11 +1372,12 @@ static inline enum rrcache_status rrcache_can_read(const struct rrcache_response
    be a handle that holds no offers. After the call, the handle holds the offers of the response
    that are relevant to the query. The call writes to `concerned` which parts these offers are for:
    bit 0 is set if there is an offer for part 0, bit 1 if there is an offer for part 1, and so on.
-   Then `rrcache_offer_read` and `rrcache_offer_one` make the offers to shelves,
-   `rrcache_tell_offer` returns an offer, and `rrcache_tell_response` returns the kind of the
-   response. If a response has no offers, for example because TC is set, `concerned` is 0. Always
-   free the offers with `rrcache_free_offers`, even if there are none. The call takes no shelf,
-   needs no lock, and writes no event.
+   The caller then makes the offers to shelves with `rrcache_offer_read` or `rrcache_offer_one`,
+   gets an offer with `rrcache_tell_offer`, and gets the kind of the response with
+   `rrcache_tell_response`. If a response has no offers, for example because TC is set, `concerned`
+   is 0. When the offers are no longer needed, always call `rrcache_free_offers`, even if the
+   response had no offers. `rrcache_read_response` takes no shelf, needs no lock, and writes no
+   event.
 
    Returns RRCACHE_HAS_OFFERS if the handle already holds offers, even if one of the errors below
    also applies. The handle then keeps its offers. Returns RRCACHE_BAD_RULES or RRCACHE_BAD_SEED if
@@ -1380,11 +1390,12 @@ static inline enum rrcache_status rrcache_can_read(const struct rrcache_response
    have sent such a message, so the caller drops it and keeps waiting for the response. The call
    also returns RRCACHE_OTHER_QUERY if the message is too short for a header, or if QR is clear. If
    `with_case` of the query is set, a name with a letter in another case counts as different. A name
-   with a compression pointer always counts as different. Two errors count as failures of the server
-   (RFC 8767 section 5). RRCACHE_NO_QUESTION means that the response is a header without a question.
-   RRCACHE_BAD_MESSAGE means that the message answers the query but cannot be read. If TC is set,
-   RRCACHE_BAD_MESSAGE is not a failure: send the query again over TCP. If a server returns FORMERR
-   without a question, perhaps it does not support EDNS (RFC 6891 section 7).
+   that is written with a compression pointer always counts as different. Two errors count as
+   failures of the server (RFC 8767 section 5). RRCACHE_NO_QUESTION means that the response is a
+   header without a question. RRCACHE_BAD_MESSAGE means that the message answers the query but
+   cannot be read. If TC is set, RRCACHE_BAD_MESSAGE is not a failure: send the query again over
+   TCP. If a server returns FORMERR without a question, perhaps it does not support EDNS (RFC 6891
+   section 7).
 
    These data are relevant:
    - In the answer section, an RRset is relevant if its owner is the name of the question, or one of
@@ -1407,21 +1418,22 @@ static inline enum rrcache_status rrcache_can_read(const struct rrcache_response
      (RFC 4035 section 2.4).
    - An NS RRset of the authority section, unless the question asks for this RRset or the response
      is a referral (RFC 1034 section 4.3.2), which means that AA is clear and the owner of the NS
-     RRset is below `zone`. So the servers of a zone renew the delegation of this zone only if they
-     are asked for its NS RRset. But a repeated referral renews its NS RRset. If a caller wants a
-     delegation to end with its first TTL, it peeks for the NS RRset of a referral before it makes
-     the offers of the referral. If an unexpired NS RRset with the same data is cached, the caller
-     does not make the offers for the part to which the owner of this RRset belongs.
+     RRset is below `zone`. So the servers of a zone cannot renew the delegation of this zone by
+     adding NS records to the authority section of other responses. But a repeated referral renews
+     its NS RRset. If a caller wants a delegation to end with the TTL of its first referral, the
+     caller peeks for the NS RRset of a referral before it makes the offers of the referral. If an
+     unexpired NS RRset with the same data is cached, the caller does not make the offers for the
+     part to which the owner of this RRset belongs.
    - An RRset with more than 16,384 octets of rdata.
    - In class IN, an RRset of type A with rdata that are not 4 octets long, or an RRset of type AAAA
      with rdata that are not 16 octets long.
 
-   So a server of the zone `example` that is asked for one name can replace the cached data of
-   another name in only three cases. First, its CNAME records lead to the other name. Second, its
-   NS, MX or SRV records have the other name as a host. Third, the other name is above the name of
-   the question, or above a name to which CNAME records lead from the name of the question, and the
-   server sends NS, SOA, DS or DNAME records of the other name. For NS and DS records, the
-   restrictions above apply too. */
+   So a server that is asked for one name can replace the cached data of another name in only three
+   cases. First, CNAME records of its response lead from the name of the question to the other name.
+   Second, NS, MX or SRV records of its response have the other name as a host. Third, the response
+   has NS, SOA, DS or DNAME records of the other name, which is above the name of the question or
+   above a name to which CNAME records lead from there. For NS and DS records, the restrictions
+   above apply too. */
 static inline enum rrcache_status rrcache_read_response(struct rrcache_offers *offers,
                                                         const struct rrcache_response *response,
                                                         const struct rrcache_query *query,
@@ -1480,14 +1492,15 @@ rrcache_read_message_unchecked(struct rrcache_offers *offers,
         concerned);
 }
 
-/* Makes the offers of a handle that are for one part to the shelf of this part, with the timestamp
-   of the response. `share->part` is counted from 0, and must be below the number of parts for which
-   the message was read. The handle keeps the offers, so the caller may make the offers for a part
-   again. The shelf keeps the data that it stored even after the offers of the handle are freed. The
-   call copies no names and no data. It writes to `counts` how many of the offers had each outcome.
-   If an offer fails, `counts` has the outcomes of the offers before it. Returns RRCACHE_BAD_RULES
-   if there is no such part, and RRCACHE_OTHER_SEED if the seed of the shelf is not the seed of the
-   parts, because then no ask would find the data. Needs the write lock of the shelf. */
+/* Offers to the shelf of one part all data that were read into a handle for this part, with the
+   timestamp of the response. The part is `share->part`, which is counted from 0, and must be below
+   the number of parts for which the message was read. The handle keeps the offers, so the caller
+   may make the offers for a part again. The shelf keeps the data that it stored even after the
+   offers of the handle are freed. The call copies no names and no data. It writes to `counts` how
+   many of the offers had each outcome. If an offer fails, `counts` has the outcomes of the offers
+   before it. Returns RRCACHE_BAD_RULES if there is no such part, and RRCACHE_OTHER_SEED if the seed
+   of the shelf is not the seed with which the message was read, because then no ask would find the
+   data. Needs the write lock of the shelf. */
 static inline enum rrcache_status rrcache_offer_read(struct rrcache_shelf *shelf,
                                                      struct rrcache_offers *offers,
                                                      const struct rrcache_share *share,
@@ -1555,8 +1568,8 @@ static inline enum rrcache_status rrcache_tell_offer(struct rrcache_offers *offe
                                                buffer_size == 0 ? &none : buffer, buffer_size);
 }
 
-/* Returns how many octets a name of this size, or rdata of this size, use: inline or in a separate
-   block. */
+/* Returns how many octets are used to hold a name of `size` octets, or rdata of `size` octets,
+   whether inline or in a separate block. */
 static inline uint64_t rrcache_room(uint64_t size)
 {
     return RRCACHE_VALUE_OCTETS + (size <= RRCACHE_INLINE_OCTETS ? 0 : RRCACHE_BLOCK_OCTETS + size);
@@ -1577,11 +1590,12 @@ static inline uint64_t rrcache_data_room(const uint8_t *data, uint64_t size)
 }
 
 /* Computes how many octets an offer uses if it is stored under a key of its own, as `rrcache_sizes`
-   counts octets. The arguments are the output of `rrcache_tell_offer`. If an offer uses more octets
-   than the limit to which the caller trims the shelf, the trim after this offer would evict all
-   other keys. The caller can instead make only the other offers, with `rrcache_offer_one`, and
-   answer the waiting client from the output of `rrcache_tell_offer`. Returns RRCACHE_SMALL if
-   `buffer_size` is less than the sum of the sizes in `told`. Needs no lock. */
+   counts octets. `name`, `told` and `buffer` are the output of `rrcache_tell_offer`. If an offer
+   uses more octets than the limit to which the caller trims the shelf, the trim after this offer
+   would evict all other keys. The caller can instead make only the other offers of the message,
+   with `rrcache_offer_one`, and answer the waiting client from the output of `rrcache_tell_offer`.
+   Returns RRCACHE_SMALL if `buffer_size` is less than the sum of the sizes in `told`. Needs no
+   lock. */
 static inline enum rrcache_status rrcache_tell_octets(const struct rrcache_name *name,
                                                       const struct rrcache_told *told,
                                                       const uint8_t *buffer, size_t buffer_size,
@@ -1603,13 +1617,13 @@ static inline enum rrcache_status rrcache_tell_octets(const struct rrcache_name 
     return RRCACHE_DONE;
 }
 
-/* Makes one of the offers of a handle to a shelf, and writes the outcome to `outcome`
-   (`enum rrcache_outcome`). So a caller that makes its own decisions, such as a validator, can make
-   some offers and not others. `pick->index` is counted from 0. The shelf must be the shelf of the
-   offer's part, which is `part` of the name that `rrcache_tell_offer` writes. The call does not
-   check this condition. Returns RRCACHE_NO_OFFERS if there is no offer with this number, and
-   RRCACHE_OTHER_SEED if the seed of the shelf is not the seed of the parts. Needs the write lock of
-   the shelf. */
+/* Makes one of the offers that a handle holds. The offer is made to `shelf`, and the call writes
+   the outcome to `outcome` (`enum rrcache_outcome`). So a caller that makes its own decisions, such
+   as a validator, can make some offers and not others. `pick->index` is counted from 0. The shelf
+   must be the shelf of the offer's part, which is `part` of the name that `rrcache_tell_offer`
+   writes. The call does not check this condition. Returns RRCACHE_NO_OFFERS if there is no offer
+   with this number, and RRCACHE_OTHER_SEED if the seed of the shelf is not the seed with which the
+   message was read. Needs the write lock of the shelf. */
 static inline enum rrcache_status rrcache_offer_one(struct rrcache_shelf *shelf,
                                                     struct rrcache_offers *offers,
                                                     const struct rrcache_offer_pick *pick,
@@ -1626,7 +1640,8 @@ static inline enum rrcache_status rrcache_offer_one(struct rrcache_shelf *shelf,
 }
 
 /* Frees the offers of a handle. The handle then holds no offers. Shelves keep the data that they
-   stored. Returns RRCACHE_NO_OFFERS if the handle holds no offers. Needs no lock of a shelf. */
+   stored. Returns RRCACHE_NO_OFFERS if no call has filled the handle, or if its offers were already
+   freed. Needs no lock of a shelf. */
 static inline enum rrcache_status rrcache_free_offers(struct rrcache_offers *offers)
 {
     if (offers == NULL)
@@ -1636,13 +1651,14 @@ static inline enum rrcache_status rrcache_free_offers(struct rrcache_offers *off
 
 /* Offers to a shelf all data of a response that are in bailiwick: the RRsets of the response, and
    its negative answer or failure. The call also offers the data of names that belong to other
-   shelves. If there are other shelves, call `rrcache_offer_part_unchecked` for each shelf instead.
-   The call does not compare the response with a query, and ignores `lowest_ttl` and
-   `clears_denied`. A response with TC set offers nothing ("What is stored" above). The call writes
-   to `counts` how many of the offers had each outcome. If an offer fails, `counts` has the outcomes
-   of the offers before it. Returns RRCACHE_BAD_LIMITS if a limit is out of range, RRCACHE_BAD_NAME
-   if the zone is not in wire form, and RRCACHE_BAD_MESSAGE if the octets cannot be read as a
-   response. Needs the write lock. */
+   shelves. If there are other shelves, call `rrcache_read_message_unchecked` instead, and then
+   `rrcache_offer_read` for each shelf that the message concerns. `rrcache_offer_message_unchecked`
+   does not compare the response with a query, and ignores `lowest_ttl` and `clears_denied`. A
+   response with TC set offers nothing ("What is stored" above). The call writes to `counts` how
+   many of the offers had each outcome. If an offer fails, `counts` has the outcomes of the offers
+   before it. Returns RRCACHE_BAD_LIMITS if a limit is out of range, RRCACHE_BAD_NAME if the zone is
+   not in wire form, and RRCACHE_BAD_MESSAGE if the octets cannot be read as a response. Needs the
+   write lock. */
 static inline enum rrcache_status
 rrcache_offer_message_unchecked(struct rrcache_shelf *shelf,
                                 const struct rrcache_response *response, uint64_t line,
@@ -1661,11 +1677,11 @@ rrcache_offer_message_unchecked(struct rrcache_shelf *shelf,
         rrcache_octets(response->zone, response->zone_size), response->zone_size, &terms, counts);
 }
 
-/* Offers the same data as `rrcache_offer_message_unchecked`, but only the data of names in one
-   part. Parts are counted from 0. Offers of other parts are neither made nor counted. Returns
+/* Does what `rrcache_offer_message_unchecked` does, but offers only the data of names in one part.
+   Parts are counted from 0. Offers of other parts are neither made nor counted. Returns
    RRCACHE_BAD_RULES if there is no such part or `parts->count` is not 1 to 64, RRCACHE_BAD_SEED if
-   the seed is all zeros, RRCACHE_OTHER_SEED if the shelf has another seed, and the errors of
-   `rrcache_offer_message_unchecked`. Needs the write lock. */
+   the seed is all zeros, and RRCACHE_OTHER_SEED if the shelf has another seed. The other errors are
+   those of `rrcache_offer_message_unchecked`. Needs the write lock. */
 static inline enum rrcache_status
 rrcache_offer_part_unchecked(struct rrcache_shelf *shelf, const struct rrcache_response *response,
                              const struct rrcache_parts *parts, const struct rrcache_share *share,
@@ -1764,8 +1780,8 @@ static inline enum rrcache_status rrcache_offer_negative(struct rrcache_shelf *s
 
 /* Offers a resolution failure of a name, a class and a type (RFC 9520). A failure is always stored,
    so `outcome` is RRCACHE_KEPT. A failure with `ttl` 0 replaces, and so ends, the failure that the
-   shelf holds for the name, class and type. No ask returns a failure with `ttl` 0. If the shelf
-   holds no such failure, the new failure still takes a key and may evict another key. So offer a
+   shelf holds for the name, class and type. No ask returns a failure with `ttl` 0. Such a failure
+   takes a key even if there is no failure to end, and may then evict another key. So offer a
    failure with `ttl` 0 only after a call has returned RRCACHE_FAILED. Returns RRCACHE_BAD_TYPE if
    data of the type are not kept in the class, RRCACHE_BAD_NAME if the name is not in wire form, and
    RRCACHE_WRONG_BODY if `ttl` is above 2^31 - 1. Needs the write lock. */
@@ -1814,10 +1830,10 @@ static inline enum rrcache_status rrcache_can_tell(const struct rrcache_shelf *s
    front of the LRU order. The call writes the reply to `told` and to the buffer.
 
    Returns RRCACHE_BAD_CHOICE if the question has an unknown purpose or mode, RRCACHE_BAD_TYPE if
-   its type is 0 or its class is not kept, RRCACHE_BAD_NAME if `name` holds no name,
-   RRCACHE_OTHER_SEED if the name was made under another seed, and RRCACHE_SMALL if the buffer is
-   too small: `told` then has the reply and its sizes, and no event is written. The call checks for
-   RRCACHE_SMALL before RRCACHE_HISTORY_FULL and RRCACHE_MOMENT_TOO_LARGE, so a second call with
+   its type is 0 or its class is not kept, RRCACHE_BAD_NAME if `name` holds no name, and
+   RRCACHE_OTHER_SEED if the name was made under another seed. Returns RRCACHE_SMALL if the buffer
+   is too small: `told` then has the reply and its sizes, and no event is written. The call checks
+   for RRCACHE_SMALL before RRCACHE_HISTORY_FULL and RRCACHE_MOMENT_TOO_LARGE, so a second call with
    enough room may still fail. While the shelf does not record, the call never allocates and never
    returns RRCACHE_MEMORY. Needs the write lock.
 
@@ -1868,31 +1884,33 @@ static inline enum rrcache_status rrcache_peek(const struct rrcache_shelf *shelf
 
    The reply is the CNAME record if two conditions hold. First, a question for type CNAME would get
    the record as a fresh answer, or as a stale answer that is acceptable. Second, the record takes
-   precedence over the reply for the type. The record takes precedence in each of these cases:
+   precedence over the reply for the type of the question. The record takes precedence in each of
+   these cases:
    - The reply for the type is a miss.
-   - The record was stored later than the entry for the type, unless that entry is unexpired and of
-     higher rank.
-   - The record was stored earlier than the entry for the type, and is unexpired and of higher rank.
+   - The record was stored later than the entry that gives the reply for the type, unless that entry
+     is unexpired and of higher rank.
+   - The record was stored earlier than the entry that gives the reply for the type, but is
+     unexpired and of higher rank.
 
-   So the call compares a CNAME record and the data that the record replaced in the same way as an
-   ask compares an RRset and an NXDOMAIN. As a result, an older address is not returned in place of
-   a newer CNAME record (RFC 8767 section 7). If one of the two conditions does not hold, the call
-   returns the reply for the type. It always does so for types CNAME and ANY (RFC 1034 section
-   4.3.2), and for types NSEC and RRSIG, because a name with a CNAME record has NSEC and RRSIG
-   records of its own (RFC 4035 section 2.5).
+   So the call chooses between the CNAME record and the data of the type in the same way as an ask
+   chooses between an RRset and an NXDOMAIN. As a result, an older address is not returned in place
+   of a newer CNAME record (RFC 8767 section 7). If one of the two conditions does not hold, the
+   call returns the reply for the type. It always does so for a question of type CNAME or ANY (RFC
+   1034 section 4.3.2), and for a question of type NSEC or RRSIG, because a name with a CNAME record
+   has NSEC and RRSIG records of its own (RFC 4035 section 2.5).
 
    If the reply is the CNAME record, the resolver then asks for the target of the record, under the
-   lock of the target's shelf. The target is the name in the first rdata, because a name has only
-   one CNAME record (RFC 2181 section 10.1).
+   lock of the target's shelf. The target is the name in the first rdata. Further rdata do not
+   count, because a name may have only one CNAME record (RFC 2181 section 10.1).
 
-   A failure belongs to the name and type of the question. So with RRCACHE_STALE_IF_FAILED, the
-   CNAME record is returned stale if the shelf holds a recent failure of the type of the question; a
-   failure of type CNAME does not count. This failure is not a failure of the names to which the
-   CNAME record leads. So if a peek for the question with RRCACHE_NO_STALE returns RRCACHE_FAILED,
-   ask for each name of the chain with RRCACHE_STALE_NOW. If the shelf holds older data of the type
-   that are unexpired, the peek returns these data instead. In this case, call
-   `rrcache_tell_stored`: it returns the failure, and `number` of the entries shows whether the
-   failure was stored after the data. */
+   A failure belongs to the name and type of the question. So with RRCACHE_STALE_IF_FAILED, an
+   expired CNAME record may be returned stale only if the shelf holds a recent failure of the type
+   of the question; a failure of type CNAME does not count. A failure of the question is not a
+   failure of the names to which the CNAME record leads. So if a peek for the question with
+   RRCACHE_NO_STALE returns RRCACHE_FAILED, ask for each name of the chain with RRCACHE_STALE_NOW.
+   If the shelf holds unexpired data of the type that are older than the failure, the peek returns
+   these data instead of RRCACHE_FAILED. In this case, call `rrcache_tell_stored`: it returns the
+   failure, and `number` of the entries shows whether the failure was stored after the data. */
 static inline enum rrcache_status rrcache_ask_alias(struct rrcache_shelf *shelf,
                                                     const struct rrcache_name *name,
                                                     const struct rrcache_question *question,
@@ -1971,12 +1989,13 @@ rrcache_sweep(struct rrcache_shelf *shelf, const struct rrcache_sweep_at *sweep,
 }
 
 /* Writes to `moment` a timestamp before which no key of the shelf is fully expired. A sweep before
-   this timestamp removes nothing, and a sweep at this timestamp may remove nothing. Before the
+   this timestamp removes nothing, and even a sweep at this timestamp may remove nothing. Before the
    first sweep, the timestamp is the earliest time at which any of the entries stored so far is
-   fully expired. After a sweep, the timestamp is later than the timestamp of the sweep, until an
-   offer is made or a chapter is closed. So if a loop sweeps at this timestamp until the timestamp
-   is later than now, the loop always ends. The timestamp is UINT64_MAX if and only if the shelf
-   holds no key. The call writes no event, and needs only the read lock. */
+   fully expired, including entries that the shelf no longer holds. After a sweep, the timestamp is
+   later than the timestamp of the sweep, until an offer is made or a chapter is closed. So if a
+   loop sweeps at this timestamp until the timestamp is later than now, the loop always ends. The
+   timestamp is UINT64_MAX if and only if the shelf holds no key. The call writes no event, and
+   needs only the read lock. */
 static inline enum rrcache_status rrcache_next_expiry(const struct rrcache_shelf *shelf,
                                                       uint64_t *moment)
 {
@@ -1993,8 +2012,8 @@ static inline enum rrcache_status rrcache_next_expiry(const struct rrcache_shelf
    `rrcache_next_expiry` would then return, and is one event. The call stops when that timestamp is
    later than `moment`, when at least `most` keys have been removed, or after `most` steps. Keys
    that fully expire in the same second are removed in one step, and a step may remove no key. The
-   call writes to `swept` the number of keys that it removed. `swept->is_done` says whether all keys
-   that are fully expired at `moment` have been removed.
+   call writes to `swept` the number of keys that it removed. `swept->is_done` is 1 if no key is
+   left that is fully expired at `moment`, and 0 if such a key may be left.
 
    Returns RRCACHE_BAD_RULES if `most` is 0, and RRCACHE_MOMENT_TOO_LARGE before the first step if
    `moment` is above 2^40. Keys that were removed before an error stay removed, and `swept` counts
@@ -2018,7 +2037,7 @@ static inline enum rrcache_status rrcache_sweep_some(struct rrcache_shelf *shelf
    A caller that trims after each message evicts about as many octets as the message stored, so no
    call takes long. The entries of the remaining keys do not change. Needs the write lock.
 
-   Each eviction is an event: an offer of the data of the key with TTL 0, which clears the key. The
+   The eviction of data is one event: an offer of these data with TTL 0, which clears the key. The
    eviction of a failure is two events: an offer of a failure with TTL 0, and a sweep at timestamp
    0, which removes only entries with TTL 0. If the shelf already holds a failure with TTL 0, or has
    held one since its last sweep, the trim begins with such a sweep, and `trimmed` does not count
@@ -2093,7 +2112,7 @@ static inline enum rrcache_status rrcache_take_chapters(struct rrcache_shelf *sh
    call writes the number of these chapters to `count`, which is 0 if the shelf did not record.
    Replies do not change, and no key is lost. Returns RRCACHE_HAS_CHAPTERS if the handle already
    holds chapters, and RRCACHE_HISTORY_FULL if the open chapter has the number 2^62. After
-   RRCACHE_HISTORY_FULL and RRCACHE_MEMORY, the shelf still records, and `rrcache_stop_and_drop` can
+   RRCACHE_HISTORY_FULL or RRCACHE_MEMORY, the shelf still records, and `rrcache_stop_and_drop` can
    stop the recording. Needs the write lock.
 
    If this call directly follows `rrcache_record`, there is one chapter, which has no events. The
@@ -2112,12 +2131,12 @@ static inline enum rrcache_status rrcache_stop_recording(struct rrcache_shelf *s
 }
 
 /* Writes to the front of the buffer as many octets of a line of a chapter as fit, starting at the
-   octet `place->from` of the line. Chapters, lines and octets are counted from 0. The call writes
-   to `told` the number of octets of the line, including its LF, and the number of octets that it
-   wrote to the buffer: 0 if `from` is at or after the end of the line. A chapter has a first line
-   with the number of the chapter and the rules of the shelf, a line for each key that was cached
-   when the chapter began, and a line for each event. The lines have the form of an archive
-   (docs/FORMATS.md). Returns RRCACHE_NO_CHAPTERS if the handle holds no chapters, and
+   octet `place->from` of the line. The chapters of the handle, lines and octets are counted from 0.
+   The call writes to `told` the number of octets of the line, including its LF, and the number of
+   octets that it wrote to the buffer: 0 if `from` is at or after the end of the line. A chapter has
+   a first line with the number of the chapter and the rules of the shelf, a line for each key that
+   was cached when the chapter began, and a line for each event. The lines have the form of an
+   archive (docs/FORMATS.md). Returns RRCACHE_NO_CHAPTERS if the handle holds no chapters, and
    RRCACHE_NO_LINE if there is no such line or no such chapter. The call allocates memory for the
    whole line, and frees this memory before it returns. Needs no lock. */
 static inline enum rrcache_status rrcache_chapter_line(struct rrcache_chapters *chapters,
@@ -2138,10 +2157,10 @@ static inline enum rrcache_status rrcache_chapter_line(struct rrcache_chapters *
 }
 
 /* Writes a line of a chapter, including its LF, to `sink`, starting at the octet `place->from` of
-   the line. Chapters, lines and octets are counted from 0. Each call of the sink gets
-   RRCACHE_PIECE_OCTETS octets of the line, except the last call, which gets the rest. If the sink
-   returns nonzero, the call writes nothing more and returns RRCACHE_SINK. The other errors are
-   those of `rrcache_chapter_line`. Needs no lock. */
+   the line. The chapters of the handle, lines and octets are counted from 0. Each call of the sink
+   gets RRCACHE_PIECE_OCTETS octets of the line, except the last call, which gets the rest. If the
+   sink returns nonzero, `rrcache_write_line` writes nothing more and returns RRCACHE_SINK. The
+   other errors are those of `rrcache_chapter_line`. Needs no lock. */
 static inline enum rrcache_status rrcache_write_line(struct rrcache_chapters *chapters,
                                                      const struct rrcache_place *place,
                                                      rrcache_sink sink, void *state)
@@ -2164,11 +2183,11 @@ static inline enum rrcache_status rrcache_write_line(struct rrcache_chapters *ch
     return RRCACHE_DONE;
 }
 
-/* Writes a chapter to `sink` as text: it writes each line as `rrcache_write_line` does. Chapters
-   are counted from 0. The text of all chapters of one recording, in the order in which they were
-   taken, is an archive of the history. The sink must not make a call with the handle of these
-   chapters. Returns RRCACHE_NO_LINE if there is no such chapter. The other errors are those of
-   `rrcache_write_line`. Needs no lock. */
+/* Writes a chapter to `sink` as text: it writes each line as `rrcache_write_line` does. `chapter`
+   is the position of the chapter in the handle, counted from 0. The text of all chapters of one
+   recording, in the order in which they were taken, is an archive of the history. The sink must not
+   make a call with the handle of these chapters. Returns RRCACHE_NO_LINE if there is no such
+   chapter. The other errors are those of `rrcache_write_line`. Needs no lock. */
 static inline enum rrcache_status rrcache_write_chapter(struct rrcache_chapters *chapters,
                                                         uint64_t chapter, rrcache_sink sink,
                                                         void *state)
@@ -2187,7 +2206,8 @@ static inline enum rrcache_status rrcache_write_chapter(struct rrcache_chapters 
 }
 
 /* Frees the chapters of a handle, with all their events. The handle then holds no chapters. Returns
-   RRCACHE_NO_CHAPTERS if the handle holds no chapters. Needs no lock of a shelf. */
+   RRCACHE_NO_CHAPTERS if no call has filled the handle, or if its chapters were already freed.
+   Needs no lock of a shelf. */
 static inline enum rrcache_status rrcache_free_chapters(struct rrcache_chapters *chapters)
 {
     if (chapters == NULL)
@@ -2197,9 +2217,10 @@ static inline enum rrcache_status rrcache_free_chapters(struct rrcache_chapters 
 
 /* Writes the sizes of a shelf: the number of keys, including fully expired keys that have not been
    swept yet; the number of recorded events in the open chapter, and the number of closed chapters,
-   which are both 0 while the shelf does not record; and the number of octets that the keys use. A
-   key is a name and a class with a type (for an RRset or NODATA), without a type (for an NXDOMAIN),
-   or with a type that failed (for a resolution failure). Needs only the read lock.
+   which are both 0 while the shelf does not record; and the number of octets that the keys use.
+   There are three kinds of key: a name, a class and a type, for the RRset or NODATA of this type; a
+   name and a class, for the NXDOMAIN; and a name, a class and a type, for the resolution failure of
+   this type. Needs only the read lock.
 
    The octets are approximately the memory that the keys use. A key uses RRCACHE_ENTRY_OCTETS, plus
    the octets for its name. An RRset uses RRCACHE_SHARED_OCTETS, plus the octets for the rdata of
@@ -2211,10 +2232,10 @@ static inline enum rrcache_status rrcache_free_chapters(struct rrcache_chapters 
    uses RRCACHE_SHARED_OCTETS more than rdata of the same size.
 
    The shelf updates these counts whenever keys change, so the time of the call does not grow with
-   the number of keys. Two things are not counted. First, events and chapters keep the data of
-   evicted, replaced or swept keys. Second, a shelf that has been swept keeps the names and expiry
-   times of evicted keys until these keys would have expired. This applies to at most twice as many
-   keys as the shelf holds, plus 64. */
+   the number of keys. Two things are not counted: the events and chapters, which keep even the data
+   of evicted, replaced or swept keys; and, in a shelf that has been swept, the names and expiry
+   times of evicted keys, which the shelf keeps until these keys would have expired. The shelf keeps
+   them for at most twice as many evicted keys as it holds keys, plus 64. */
 static inline enum rrcache_status rrcache_sizes(const struct rrcache_shelf *shelf,
                                                 struct rrcache_usage *sizes)
 {
