@@ -1592,8 +1592,8 @@ static inline uint64_t rrcache_data_room(const uint8_t *data, uint64_t size)
 /* Computes how many octets an offer uses if it is stored under a key of its own, as `rrcache_sizes`
    counts octets. `name`, `told` and `buffer` are the output of `rrcache_tell_offer`. If an offer
    uses more octets than the limit to which the caller trims the shelf, the trim after this offer
-   would evict all other keys. The caller can instead make only the other offers of the message,
-   with `rrcache_offer_one`, and answer the waiting client from the output of `rrcache_tell_offer`.
+   would evict all keys. The caller can instead make only the other offers of the message, with
+   `rrcache_offer_one`, and answer the waiting client from the output of `rrcache_tell_offer`.
    Returns RRCACHE_SMALL if `buffer_size` is less than the sum of the sizes in `told`. Needs no
    lock. */
 static inline enum rrcache_status rrcache_tell_octets(const struct rrcache_name *name,
@@ -2045,8 +2045,8 @@ static inline enum rrcache_status rrcache_sweep_some(struct rrcache_shelf *shelf
 
    The octets that a trim limits are not all of the memory that a shelf uses. The first sweep of a
    shelf visits all its keys, and from then on the shelf keeps the times at which its keys expire.
-   The memory for these times is not counted. SECURITY.md says how much memory trimmed shelves used
-   in tests.
+   RRCACHE_ENTRY_OCTETS counts one such time for each key, but the shelf may keep more of them for a
+   while. SECURITY.md says how much memory trimmed shelves used in tests.
 
    Returns RRCACHE_BAD_RULES if `limit` or `most` is 0, and RRCACHE_MOMENT_TOO_LARGE if the
    timestamp is above 2^40. In both cases, the call does nothing. The call may return RRCACHE_MEMORY
