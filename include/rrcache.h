@@ -30,9 +30,9 @@
      shelves at the same time.
    - If a thread repeats a look-up within a second, and the name is in lower case, the library may
      copy the answer from a memo, which is a saved copy of an earlier answer. The library does so
-     only as long as nothing has changed in the shelf of the name. Only negative answers and answers
-     with a single RRset have memos. A look-up that a memo answers takes no place. Its result and
-     its effect on the counters are the same as without a memo.
+     only if nothing in the shelf of the name has changed since that answer. Only negative answers
+     and answers with a single RRset have memos. A look-up that a memo answers takes no place. Its
+     result and its effect on the counters are the same as without a memo.
    - ThreadSanitizer cannot see the locks of the built library. To run a program under
      ThreadSanitizer, compile the files of lib/ with the same sanitizer, and link them before the
      library.
@@ -40,9 +40,9 @@
      LRU order, because a move changes the shelf. In a shelf that is at least three quarters full,
      by octets or by keys, a look-up moves its entry if more than a quarter of the shelf's keys may
      have been used since the last use of that entry. In all other cases a look-up does not move its
-     entry, unless most of the recent look-ups moved theirs: the look-up then moves its entry too.
-     With `exact_recency`, every look-up moves its entry. docs/RULES.md says which LRU order a
-     caller can rely on.
+     entry, with one exception: if most of the recent look-ups had to move their entries, the next
+     few look-ups move theirs too. With `exact_recency`, every look-up moves its entry.
+     docs/RULES.md says which LRU order a caller can rely on.
 
    Memory
    - An answer is a copy in the caller's buffer. The copy stays valid after the entries that it came
@@ -89,7 +89,8 @@
 
    Errors
    - The header rrcache_shelf.h describes the wire form of names, the ownership of memory, and each
-     status. On error, outputs are unmodified, unless the comment of the function says otherwise.
+     status. On error, outputs other than answers are unmodified, unless the comment of the function
+     says otherwise.
    - A function that fills an answer empties the answer first. On error the answer stays empty: its
      `kind` is RRCACHE_MISS, and `end` holds no name. The exception is RRCACHE_SMALL: the answer
      then has the RRsets that fit, and `kind` and `end` are unspecified. The answer does not say how
@@ -172,8 +173,8 @@ enum { RRCACHE_MOST_ALIASES = 16 };
    If all RRsets of a look-up's answer came in responses, a buffer of 1 MiB has room for them. An
    answer of `rrcache_store` may also need a larger buffer if the query is of type ANY or of a type
    that the cache does not keep, such as RRSIG, or if an RRset has more than 16,384 octets of rdata.
-   If the buffer is too small for such an answer, `rrcache_store` has still stored everything, and
-   the answer has the RRsets that fit. */
+   Even if the buffer is too small for its answer, `rrcache_store` stores everything, and the answer
+   has the RRsets that fit. */
 enum { RRCACHE_ANSWER_OCTETS = 65536 };
 
 /* The answer to a question: a list of RRsets, which `rrcache_next` returns one by one, and a kind.
@@ -191,11 +192,11 @@ struct rrcache_answer {
     bool is_endless;         /* the CNAME chain is a loop, or has more than RRCACHE_MOST_ALIASES
                                 records. `kind` is then RRCACHE_MISS, and a query to a server will
                                 not help */
-    bool with_dnames;        /* set by the caller: each CNAME record that was synthesized from a
-                                DNAME record is preceded by the DNAME RRset, if that RRset is cached
-                                or is in the response (RFC 6672 section 3.1). For one answer, up to
-                                16 possible owners of DNAME RRsets are looked up, and each counts as
-                                one more look-up */
+    bool with_dnames;        /* set by the caller. If true, each CNAME record that was synthesized
+                                from a DNAME record is preceded by the DNAME RRset, if that RRset is
+                                cached or is in the response (RFC 6672 section 3.1). For each
+                                answer, up to 16 possible owners of DNAME RRsets are looked up, and
+                                each counts as one more look-up */
     uint64_t retry_from;     /* with RRCACHE_FAILED, the timestamp from which to try again, and
                                 otherwise 0. For a stale answer after a failure of the question, a
                                 second look-up with RRCACHE_NO_STALE returns this timestamp */
@@ -305,12 +306,12 @@ RRCACHE_API enum rrcache_status rrcache_lookup(struct rrcache *cache,
                                                const struct rrcache_request *request,
                                                struct rrcache_answer *answer);
 
-/* Looks up the deepest unexpired NS RRset at or above a name, from which a resolver can start (RFC
-   1034 section 5.3.3, RFC 9156 section 2). The answer has this RRset, and `end` is its owner. If
-   there is no such RRset, `kind` is RRCACHE_MISS. The fields `rtype`, `mode` and `takes_glue` of
-   the request are ignored. The DS RRset of a zone is in the parent zone (RFC 4035 section 2.4). So
-   for a question of type DS, pass the name without its first label. The errors are those of
-   `rrcache_lookup`, except RRCACHE_BAD_CHOICE. */
+/* Looks up the deepest unexpired NS RRset at or above a name. A resolver can start with the
+   servers that this RRset names (RFC 1034 section 5.3.3, RFC 9156 section 2). The answer has this
+   RRset, and `end` is its owner. If there is no such RRset, `kind` is RRCACHE_MISS. The fields
+   `rtype`, `mode` and `takes_glue` of the request are ignored. The DS RRset of a zone is in the
+   parent zone (RFC 4035 section 2.4). So for a question of type DS, pass the name without its first
+   label. The errors are those of `rrcache_lookup`, except RRCACHE_BAD_CHOICE. */
 RRCACHE_API enum rrcache_status rrcache_lookup_delegation(struct rrcache *cache,
                                                           const struct rrcache_request *request,
                                                           struct rrcache_answer *answer);
@@ -326,13 +327,14 @@ RRCACHE_API bool rrcache_next(const struct rrcache_answer *answer, struct rrcach
    of `response` is 0, the limit of the cache applies.
 
    Returns RRCACHE_OTHER_QUERY if the octets do not answer the query: the caller then drops them and
-   keeps waiting (RFC 5452 section 9.1). RRCACHE_BAD_MESSAGE and RRCACHE_NO_QUESTION mean that the
-   server has failed, and nothing is stored. A response with an RCODE other than NOERROR and
-   NXDOMAIN, such as SERVFAIL, is stored as a failure of its question. So pass such a response only
-   when no other server is left to ask. The RCODE is in the low four bits of the fourth octet of the
-   response. From a truncated response (TC set) nothing is stored: send the query again over TCP. If
-   a truncated response ends inside a record, the call returns RRCACHE_BAD_MESSAGE. So if TC is set
-   (0x02 of the third octet), RRCACHE_BAD_MESSAGE does not mean that the server has failed.
+   keeps waiting (RFC 5452 section 9.1). RRCACHE_NO_QUESTION and, unless TC is set,
+   RRCACHE_BAD_MESSAGE mean that the server has failed; nothing is stored. A response with an RCODE
+   other than NOERROR and NXDOMAIN, such as SERVFAIL, is stored as a failure of its question. So
+   pass such a response only when no other server is left to ask. The RCODE is in the low four bits
+   of the fourth octet of the response. From a truncated response (TC set) nothing is stored: send
+   the query again over TCP. If a truncated response ends inside a record, the call returns
+   RRCACHE_BAD_MESSAGE. So if TC is set (0x02 of the third octet), RRCACHE_BAD_MESSAGE does not mean
+   that the server has failed.
 
    To read a response without storing it, call `rrcache_read_response` with one part, any seed that
    is not zeros, and limits that are not 0. That call compares the response with the query as
@@ -352,23 +354,23 @@ RRCACHE_API bool rrcache_next(const struct rrcache_answer *answer, struct rrcach
    referral, and store the response again.
 
    `answer` may be null. Otherwise, the call fills `answer` with the answer that the response itself
-   gives, including data that are not stored: data with TTL 0, data that were left out, and data of
+   gives, including data that are not stored: data with TTL 0, data that are too large, and data of
    lower rank than the cached data. So a waiting client gets the data that the server sent. An RRset
    with unequal TTLs is left out of `answer` too, if AA is clear and `lowest_ttl` is not set. `kind`
    of `answer` is then RRCACHE_MISS if that RRset has the data of the type, or a CNAME record that
-   leads to them. For a query of type ANY, the answer has all other RRsets of the name, although a
-   look-up of type ANY never returns them. For this answer, at most RRCACHE_MOST_ALIASES CNAME
-   records are followed, and RRsets of any size are returned. The limits on what is relevant, and
-   therefore stored, are lower: fewer CNAME records are followed, and only smaller RRsets are
-   relevant. Rdata of types A and AAAA may have any length in this answer. If the type of the query
-   is not kept, such as NAPTR, each record is returned as an RRset of its own, and RRCACHE_NODATA
-   means that an SOA record denies the type. `kind` is RRCACHE_MISS if only `report` has the result,
-   as for a negative response without an SOA record.
+   leads to them. For a query of type ANY, `answer` has all RRsets of the name that are not left out
+   in this way, although a look-up of type ANY never returns them. To fill `answer`, the call
+   follows at most RRCACHE_MOST_ALIASES CNAME records, and returns RRsets of any size. The limits on
+   what is relevant, and therefore stored, are lower: fewer CNAME records are followed, and only
+   smaller RRsets are relevant. In `answer`, rdata of types A and AAAA may have any length. If the
+   type of the query is not kept, such as NAPTR, each record is returned as an RRset of its own, and
+   RRCACHE_NODATA means that an SOA record denies the type. `kind` is RRCACHE_MISS if only `report`
+   has the result, as for a negative response without an SOA record.
 
    If the response has only the beginning of a CNAME chain, its kind is RRCACHE_RESPONSE_ALIAS, and
    `kind` of the answer is RRCACHE_MISS. Keep the CNAME RRsets of this answer, and look up `end`
-   next. Do not look up the name of the query again: a CNAME record with TTL 0 is not stored, so
-   that look-up would be a miss again.
+   next. Do not look up the name of the query again: if a CNAME record of the chain has TTL 0, it is
+   not stored, and the look-up is a miss again.
 
    Also returns RRCACHE_BAD_LIMITS if a limit is out of range, and RRCACHE_BAD_NAME if the zone or
    the name of the query is not in wire form. After these errors, `report` is unmodified. Once the
@@ -444,9 +446,9 @@ RRCACHE_API enum rrcache_status rrcache_sweep_all(struct rrcache *cache, uint64_
 #pragma GCC diagnostic ignored "-Wshadow"
 #endif
 
-/* Writes to `stats` the counters of all shelves since the cache was opened, and the keys and octets
-   that the shelves hold. The call reads one shelf after another. While it reads a shelf, look-ups
-   in that shelf wait, as they wait for a store. */
+/* Writes to `stats` the sums of the counters of all shelves since the cache was opened, and of the
+   keys and octets that the shelves hold. The call reads one shelf after another. While it reads a
+   shelf, look-ups in that shelf wait, as they wait for a store. */
 RRCACHE_API enum rrcache_status rrcache_stats(struct rrcache *cache, struct rrcache_stats *stats);
 
 #if defined __cplusplus && defined __GNUC__
