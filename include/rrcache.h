@@ -157,7 +157,7 @@ struct rrcache_request {
     uint16_t rtype;
     uint16_t rclass;        /* enum rrcache_class */
     uint64_t moment;        /* a timestamp, or 0 for now */
-    enum rrcache_mode mode; /* when a stale answer is acceptable; 0 is an error */
+    enum rrcache_mode mode; /* when a stale answer is acceptable; `rrcache_lookup` refuses 0 */
     bool takes_glue; /* whether additional data are acceptable, such as glue, which must not answer
                         a client's question (RFC 2181 section 5.4.1) */
 };
