@@ -189,12 +189,12 @@ def main(args):
         args, TITLE,
         f". Clients of the forwarder ask for cached names, {args.rate:.0f} times a second for "
         f"{args.seconds:.0f} seconds. Meanwhile another client asks for {args.attack:.0f} names a "
-        "second, which a hostile server answers. The rows are for different names and answers of "
-        "this server; `bench/run latency --help` describes them. The first three columns of "
-        "numbers are the median, the 99th of 100 and the longest of the waits of the clients, in "
-        "milliseconds. The next columns are the number of missing answers, the number of queries "
-        "of the other client, how many of these queries the forwarder sent upstream, the processor "
-        "time of the forwarder in seconds, and by how much its memory grew, in MB. The hostile "
-        "server takes processor time too, so compare the other rows with `harmless`, not with "
-        "`none`.",
+        "second, and a hostile server answers the queries for these names. The rows are for "
+        "different names and answers of this server; `bench/run latency --help` describes them. "
+        "The first three columns of numbers are waits of the clients in milliseconds: the median, "
+        "the 99th percentile and the longest. The next columns are the number of missing answers, "
+        "the number of queries of the other client, the number of these queries that the forwarder "
+        "sent upstream, the processor time of the forwarder in seconds, and the growth of its "
+        "memory in MB. The hostile server takes processor time too, so compare the other rows with "
+        "`harmless`, not with `none`.",
         table(HEAD, rows))

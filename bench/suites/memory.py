@@ -67,7 +67,7 @@ def main(args):
         "`rrcache_sizes` returned. Names had 3 to 255 octets. RRsets had 1 to 200 records of 4 to "
         "16,000 octets. SOA records of negative answers, with their owners, had 23 to 785 octets. "
         "Each kind was measured twice: on a shelf that was never swept, and on one that was swept "
-        "after each tenth offer. No key was evicted, and nothing was recorded.")
+        "after every tenth offer. No key was evicted, and nothing was recorded.")
 
 
 if __name__ == "__main__":

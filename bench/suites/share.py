@@ -113,5 +113,5 @@ def main(args):
         table(["What", "Parts", *map(of_threads, THREADS), f"{THREADS[-1]} to {THREADS[0]}"], rows),
         filled(
             f"With one thread, an ask that hits takes {lent:.0f} ns on parts without locks, and "
-            f"{shared:.0f} ns on a shared cache (medians of 16 short runs of each, in turn). "
-            f"Taking the lock and finding the part take {shared - lent:.0f} ns."))
+            f"{shared:.0f} ns on a shared cache (medians of 16 short runs of each, which "
+            f"alternated). Taking the lock and finding the part take {shared - lent:.0f} ns."))

@@ -151,7 +151,8 @@ def main(args):
     write_section(
         args, TITLE,
         f". Both caches had {args.names:,} names with one A record each, and 64 shards. The "
-        f"numbers are medians of {args.runs} runs of each cache, in turn, with {args.calls:,} "
-        "calls per run. Time is the processor time of a call as a multiple of the time that a call "
-        "of unbound's RRset cache takes, so less is better. Rate is the number of calls per second "
-        "of elapsed time as a multiple of unbound's rate, so more is better.", *parts)
+        f"numbers are medians of {args.runs} runs of each cache, with {args.calls:,} calls per "
+        "run; the runs of the two caches alternated. Time is the processor time of a call as a "
+        "multiple of the time that a call of unbound's RRset cache takes, so less is better. Rate "
+        "is the number of calls per second of elapsed time as a multiple of unbound's rate, so "
+        "more is better.", *parts)
