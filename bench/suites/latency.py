@@ -13,7 +13,7 @@ of these ways:
   one part   an address for each name, and all names lie in one part by `part_of`, which has no key
   sets       an RRset of some 16,000 octets for each name, which is kept, over TCP
   messages   a message of 64 kB for each name, of which little is kept, over TCP
-Waits are milliseconds: the median, the 99th of 100 and the longest. The server's own work takes
+Waits are milliseconds: the median, the 99th percentile and the longest. The server's own work takes
 processors too, so `harmless` is what to compare with.
 """
 import itertools
@@ -42,7 +42,7 @@ OPTIONS = {
     "way": ((), "some of the ways (default all)"),
 }
 OTHERS, PARTS, TTL, FLAGS = 20, 16, 600, QR | RD | 0x480
-HEAD = ["Names", "median", "99th of 100", "longest", "missing", "queries", "asked", "processor",
+HEAD = ["Names", "median", "99th percentile", "longest", "missing", "queries", "asked", "processor",
         "memory"]
 # How long a client waits before an answer counts as missing.
 MOST_SECONDS = 2.0
