@@ -49,11 +49,39 @@ static bool will_evict(const struct rrcache *cache, const struct part *part, con
     return part->keys >= cache->most_keys && !is_held(part, key);
 }
 
-static void count_outcome(struct part *part, uint32_t outcome, bool evicts)
+/* Data of one key that are being stored. Their part is locked from `begin_storing` to
+   `end_storing`. */
+struct storing {
+    struct rrcache *cache;
+    struct part *part;
+    uint64_t moment;
+    bool evicts; /* whether the part evicts a key if the offer is kept */
+};
+
+/* Locks the part of a key. This function and the next one are inline, because calls of them would
+   take about 50 instructions of each store. */
+static inline struct storing begin_storing(struct rrcache *cache, const struct key *key,
+                                           uint64_t moment)
 {
-    part->kept += outcome == RRCACHE_KEPT;
-    part->outranked += outcome == RRCACHE_OUTRANKED;
-    part->evicted += outcome == RRCACHE_KEPT && evicts;
+    struct part *part = &cache->part[key->name->part];
+    lock_part(cache, part);
+    return (struct storing){cache, part, moment, will_evict(cache, part, key)};
+}
+
+/* Counts the outcome of an offer, which is not set if its status is an error, and unlocks the part.
+   Returns the status. */
+static inline enum rrcache_status end_storing(const struct storing *storing,
+                                              enum rrcache_status status, const uint32_t *outcome)
+{
+    struct part *part = storing->part;
+    if (status == RRCACHE_DONE) {
+        part->kept += *outcome == RRCACHE_KEPT;
+        part->outranked += *outcome == RRCACHE_OUTRANKED;
+        part->evicted += *outcome == RRCACHE_KEPT && storing->evicts;
+    }
+    settle(storing->cache, part, storing->moment);
+    unlock_part(storing->cache, part);
+    return status;
 }
 
 /* ---- Responses. */
@@ -115,23 +143,19 @@ static enum rrcache_status store_shares(struct intake *intake)
 static enum rrcache_status store_one(struct intake *intake, uint64_t index, const struct key *key)
 {
     const struct rrcache_offer_pick pick = {.index = index};
-    struct part *part = &intake->cache->part[key->name->part];
+    const struct storing storing = begin_storing(intake->cache, key, intake->moment);
     uint32_t outcome = 0;
-    lock_part(intake->cache, part);
-    bool evicts = will_evict(intake->cache, part, key);
     if (key->rtype == RRTYPE_CNAME)
-        note_alias(part, key->name);
-    enum rrcache_status status = rrcache_offer_one(&part->shelf, &intake->offers, &pick, &outcome);
+        note_alias(storing.part, key->name);
+    enum rrcache_status status =
+        rrcache_offer_one(&storing.part->shelf, &intake->offers, &pick, &outcome);
     const struct rrcache_counts counts = {
         .kept = outcome == RRCACHE_KEPT,
         .cleared = outcome == RRCACHE_CLEARED,
         .outranked = outcome == RRCACHE_OUTRANKED,
     };
     add_counts(intake, &counts);
-    count_outcome(part, outcome, evicts);
-    settle(intake->cache, part, intake->moment);
-    unlock_part(intake->cache, part);
-    return status;
+    return end_storing(&storing, status, &outcome);
 }
 
 /* Stores offers one by one in the shelves whose shares were not stored at once, except offers that
@@ -261,18 +285,12 @@ enum rrcache_status rrcache_store_set(struct rrcache *cache, const struct rrcach
     if (key_octets(&name, set->owner, set->owner_size, rrcache_data_room(set->data, set->data_size))
         > cache->most_octets)
         return RRCACHE_TOO_LARGE;
-    struct part *part = &cache->part[name.part];
     const struct key key = {&name, RRCACHE_FRESH, set->rtype, set->rclass};
-    lock_part(cache, part);
-    bool evicts = will_evict(cache, part, &key);
+    const struct storing storing = begin_storing(cache, &key, offered.moment);
     if (set->rtype == RRTYPE_CNAME)
-        note_alias(part, &name);
-    status = rrcache_offer_set(&part->shelf, &offered, outcome);
-    if (status == RRCACHE_DONE)
-        count_outcome(part, *outcome, evicts);
-    settle(cache, part, offered.moment);
-    unlock_part(cache, part);
-    return status;
+        note_alias(storing.part, &name);
+    status = rrcache_offer_set(&storing.part->shelf, &offered, outcome);
+    return end_storing(&storing, status, outcome);
 }
 
 enum rrcache_status rrcache_store_negative(struct rrcache *cache,
@@ -294,16 +312,10 @@ enum rrcache_status rrcache_store_negative(struct rrcache *cache,
                    RRCACHE_SHARED_OCTETS + rrcache_room(negative->soa_size))
         > cache->most_octets)
         return RRCACHE_TOO_LARGE;
-    struct part *part = &cache->part[name.part];
     const struct key key = {&name, (uint32_t)negative->kind, negative->rtype, negative->rclass};
-    lock_part(cache, part);
-    bool evicts = will_evict(cache, part, &key);
-    status = rrcache_offer_negative(&part->shelf, &offered, outcome);
-    if (status == RRCACHE_DONE)
-        count_outcome(part, *outcome, evicts);
-    settle(cache, part, offered.moment);
-    unlock_part(cache, part);
-    return status;
+    const struct storing storing = begin_storing(cache, &key, offered.moment);
+    status = rrcache_offer_negative(&storing.part->shelf, &offered, outcome);
+    return end_storing(&storing, status, outcome);
 }
 
 enum rrcache_status rrcache_store_failure(struct rrcache *cache,
@@ -318,16 +330,10 @@ enum rrcache_status rrcache_store_failure(struct rrcache *cache,
         rrcache_make_name(&name, failure->name, failure->name_size, &cache->parts);
     if (status != RRCACHE_DONE)
         return status;
-    struct part *part = &cache->part[name.part];
     const struct key key = {&name, RRCACHE_FAILED, failure->rtype, failure->rclass};
-    lock_part(cache, part);
-    bool evicts = will_evict(cache, part, &key);
-    status = rrcache_offer_failure(&part->shelf, &offered, outcome);
-    if (status == RRCACHE_DONE)
-        count_outcome(part, *outcome, evicts);
-    settle(cache, part, offered.moment);
-    unlock_part(cache, part);
-    return status;
+    const struct storing storing = begin_storing(cache, &key, offered.moment);
+    status = rrcache_offer_failure(&storing.part->shelf, &offered, outcome);
+    return end_storing(&storing, status, outcome);
 }
 
 /* ---- Forgetting. */
