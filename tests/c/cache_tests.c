@@ -13,15 +13,11 @@
 #include <string.h>
 #include <time.h>
 
-#include "expect.h"
-
-/* Octets, with how many they are. */
-#define OF(octets) (octets), sizeof(octets)
+#include "caches.h"
 
 /* ---- Names, records and messages. */
 
-enum { A = 1, NS = 2, CNAME = 5, SOA = 6, TXT = 16, OPT = 41, ANY = 255 };
-enum { FIRST = 1000, ID = 0x1234, MAX_STALE = 3600 };
+enum { ID = 0x1234, MAX_STALE = 3600 };
 /* The octets of a header in which QR and other bits stand (RFC 1035 section 4.1.1). */
 enum { QR = 0x8000, AA = 0x0400, TC = 0x0200, FORMERR = 1, SERVFAIL = 2, NXDOMAIN = 3 };
 /* The last moment, and one behind it. */
@@ -29,15 +25,6 @@ static const uint64_t LAST = UINT64_C(1) << 40, LATE = (UINT64_C(1) << 40) + 1;
 
 static const uint8_t ADDRESS[] = {192, 0, 2, 1};
 static const uint8_t OTHER_ADDRESS[] = {192, 0, 2, 2};
-/* The data of an SOA record: two roots, and five numbers, of which MINIMUM is 60. */
-static const uint8_t SOA_DATA[] = {0, 0, 0, 0, 0, 1, 0, 0, 0, 2, 0,
-                                   0, 0, 3, 0, 0, 0, 4, 0, 0, 0, 60};
-
-/* The wire form of a name. */
-struct wire {
-    uint8_t octets[256];
-    size_t size;
-};
 
 /* The wire form of a name that is written with dots, "" being the root. */
 static struct wire wire_of(const char *text)
@@ -143,13 +130,6 @@ static struct rrcache_config config_of(uint64_t shelves)
                                    .seed = {1, 2, 3}};
 }
 
-static struct rrcache *open_by(const struct rrcache_config *config)
-{
-    struct rrcache *cache = NULL;
-    NEED(rrcache_open(&cache, config) == RRCACHE_DONE && cache != NULL);
-    return cache;
-}
-
 static struct rrcache *open_small(void)
 {
     struct rrcache_config config = config_of(4);
@@ -176,12 +156,9 @@ static struct rrcache_answer blank(void)
 
 static struct rrcache_request request_of(const struct wire *name, uint16_t rtype, uint64_t moment)
 {
-    return (struct rrcache_request){.name = name->octets,
-                                    .name_size = name->size,
-                                    .rtype = rtype,
-                                    .rclass = RRCACHE_IN,
-                                    .moment = moment,
-                                    .mode = RRCACHE_NO_STALE};
+    struct rrcache_request request = plain_request(name->octets, name->size, rtype);
+    request.moment = moment;
+    return request;
 }
 
 static struct rrcache_answer look_in(struct rrcache *cache, const char *name, uint16_t rtype,
@@ -219,15 +196,7 @@ static struct rrcache_answer delegation(struct rrcache *cache, const char *name,
 static struct rrcache_set set_of(const struct wire *owner, uint16_t rtype, uint32_t ttl,
                                  const uint8_t *data, size_t size)
 {
-    return (struct rrcache_set){.owner = owner->octets,
-                                .owner_size = owner->size,
-                                .rtype = rtype,
-                                .rclass = RRCACHE_IN,
-                                .trust = RRCACHE_AUTHORITATIVE_ANSWER,
-                                .ttl = ttl,
-                                .data = data,
-                                .data_size = size,
-                                .moment = FIRST};
+    return plain_set(owner->octets, owner->size, rtype, ttl, data, size);
 }
 
 static const uint8_t DATUM[] = {0, 4, 192, 0, 2, 1};
@@ -238,11 +207,9 @@ static uint32_t keep_at(struct rrcache *cache, const char *owner, uint32_t ttl, 
 {
     struct wire wire = wire_of(owner);
     struct rrcache_set set = set_of(&wire, A, ttl, OF(DATUM));
-    uint32_t outcome = 0;
     set.moment = moment;
     set.trust = trust;
-    NEED(rrcache_store_set(cache, &set, &outcome) == RRCACHE_DONE);
-    return outcome;
+    return store_set(cache, set);
 }
 
 static uint32_t keep(struct rrcache *cache, const char *owner, uint32_t ttl)
@@ -256,11 +223,8 @@ static uint32_t keep_name(struct rrcache *cache, const char *owner, uint16_t rty
 {
     struct wire wire = wire_of(owner), to = wire_of(target);
     uint8_t data[2 + sizeof to.octets] = {0, (uint8_t)to.size};
-    struct rrcache_set set = set_of(&wire, rtype, ttl, data, to.size + 2);
-    uint32_t outcome = 0;
     memcpy(data + 2, to.octets, to.size);
-    NEED(rrcache_store_set(cache, &set, &outcome) == RRCACHE_DONE);
-    return outcome;
+    return store_set(cache, set_of(&wire, rtype, ttl, data, to.size + 2));
 }
 
 static uint32_t keep_alias(struct rrcache *cache, const char *owner, const char *target,
@@ -269,51 +233,29 @@ static uint32_t keep_alias(struct rrcache *cache, const char *owner, const char 
     return keep_name(cache, owner, CNAME, target, ttl);
 }
 
-static const uint8_t EXAMPLE[] = "\7example";
-
 static struct rrcache_negative negative_of(const struct wire *name, enum rrcache_kind kind,
                                            uint32_t ttl)
 {
-    return (struct rrcache_negative){.name = name->octets,
-                                     .name_size = name->size,
-                                     .rtype = A,
-                                     .rclass = RRCACHE_IN,
-                                     .kind = kind,
-                                     .trust = RRCACHE_AUTHORITY,
-                                     .ttl = ttl,
-                                     .soa_owner = EXAMPLE,
-                                     .soa_owner_size = sizeof EXAMPLE,
-                                     .soa = SOA_DATA,
-                                     .soa_size = sizeof SOA_DATA,
-                                     .moment = FIRST};
+    return plain_negative(name->octets, name->size, A, kind, ttl);
 }
 
 static uint32_t deny(struct rrcache *cache, const char *name, enum rrcache_kind kind, uint32_t ttl)
 {
     struct wire wire = wire_of(name);
-    struct rrcache_negative negative = negative_of(&wire, kind, ttl);
-    uint32_t outcome = 0;
-    NEED(rrcache_store_negative(cache, &negative, &outcome) == RRCACHE_DONE);
-    return outcome;
+    return store_negative(cache, negative_of(&wire, kind, ttl));
 }
 
 static struct rrcache_failure failure_of(const struct wire *name, uint32_t ttl, uint64_t moment)
 {
-    return (struct rrcache_failure){.name = name->octets,
-                                    .name_size = name->size,
-                                    .rtype = A,
-                                    .rclass = RRCACHE_IN,
-                                    .ttl = ttl,
-                                    .moment = moment};
+    struct rrcache_failure failure = plain_failure(name->octets, name->size, A, ttl);
+    failure.moment = moment;
+    return failure;
 }
 
 static uint32_t fail(struct rrcache *cache, const char *name, uint32_t ttl, uint64_t moment)
 {
     struct wire wire = wire_of(name);
-    struct rrcache_failure failure = failure_of(&wire, ttl, moment);
-    uint32_t outcome = 0;
-    NEED(rrcache_store_failure(cache, &failure, &outcome) == RRCACHE_DONE);
-    return outcome;
+    return store_failure(cache, failure_of(&wire, ttl, moment));
 }
 
 /* A query for a message's question, and the response that it is, of a server of `example`. */
@@ -1515,6 +1457,16 @@ static void test_store_that_clears(void)
     }
 }
 
+/* Begins a response with a question of class CH and one record, given by its octets. */
+static void begin_chaos(struct message *message, const char *name, uint16_t rtype,
+                        const uint8_t *record, size_t size)
+{
+    begin(message, AA, name, rtype);
+    message->octets[message->size - 1] = RRCACHE_CH;
+    put(message, record, size);
+    message->octets[7] = 1;
+}
+
 /* A response to a.example TXT of class CH, with a record of 60 seconds. */
 static void test_store_of_another_class(void)
 {
@@ -1527,10 +1479,7 @@ static void test_store_of_another_class(void)
     struct rrcache_answer answer = blank();
     struct rrcache_report report;
     query.rclass = request.rclass = RRCACHE_CH;
-    begin(&message, AA, "a.example", TXT);
-    message.octets[message.size - 1] = RRCACHE_CH;
-    put(&message, OF(record));
-    message.octets[7] = 1;
+    begin_chaos(&message, "a.example", TXT, OF(record));
     struct rrcache_response response = response_of(&message);
     EXPECT(rrcache_store(cache, &query, &response, &report, &answer) == RRCACHE_DONE
            && report.counts.kept == 1);
@@ -1562,10 +1511,7 @@ static void test_store_of_an_address_of_another_class(void)
     struct rrcache_answer answer = blank();
     struct rrcache_report report;
     query.rclass = RRCACHE_CH;
-    begin(&message, AA, "a.example", A);
-    message.octets[message.size - 1] = RRCACHE_CH;
-    put(&message, OF(record));
-    message.octets[7] = 1;
+    begin_chaos(&message, "a.example", A, OF(record));
     struct rrcache_response response = response_of(&message);
     EXPECT(rrcache_store(cache, &query, &response, &report, &answer) == RRCACHE_DONE
            && report.counts.kept == 0 && answer.kind == RRCACHE_FRESH && count_of(&answer) == 1);
@@ -1596,8 +1542,6 @@ static void test_store_of_a_dname(void)
 }
 
 /* ---- DNAME records, told before the CNAME records that they made (RFC 6672 section 3.1). */
-
-enum { DNAME = 39 };
 
 /* Looks up with DNAME records, in a buffer of so many octets. */
 static enum rrcache_status look_with_dnames(struct rrcache *cache, const char *name, uint16_t rtype,
@@ -1786,7 +1730,7 @@ static void test_rank_of_a_denial_behind_a_long_chain(void)
 static void test_store_of_a_large_rrset(void)
 {
     static struct message message;
-    enum { AAAA = 28, COUNT = 1025 };
+    enum { COUNT = 1025 };
     struct rrcache *cache = open_small();
     struct wire wire = wire_of("www.example");
     struct rrcache_query query = query_of(&wire, AAAA);
@@ -1817,7 +1761,7 @@ static void test_store_of_a_large_rrset(void)
 
 /* ---- Types that no shelf keeps: each record is told as an RRset of its own. */
 
-enum { NXT = 30, NAPTR = 35, RRSIG = 46, WEEK = 604800 };
+enum { NXT = 30, NAPTR = 35, WEEK = 604800 };
 /* The data of a NAPTR record (RFC 3403 section 4.1), whose name is a pointer to the question. */
 static const uint8_t POINTED[] = {0, 1, 0, 2, 1, 'u', 0, 5, '!', 'x', '!', 'y', '!', 0xc0, 12};
 /* The same with the name `a.example` in full (RFC 3597 section 4). */
@@ -3699,10 +3643,7 @@ static void test_aliases_of_responses(void)
     struct rrcache_answer answer = blank();
     struct rrcache_report report;
     query.rclass = request.rclass = RRCACHE_CH;
-    begin(&message, AA, "a.EXAMPLE", A);
-    message.octets[message.size - 1] = RRCACHE_CH;
-    put(&message, OF(record));
-    message.octets[7] = 1;
+    begin_chaos(&message, "a.EXAMPLE", A, OF(record));
     struct rrcache_response response = response_of(&message);
     EXPECT(rrcache_store(cache, &query, &response, &report, NULL) == RRCACHE_DONE
            && report.counts.kept == 1);
@@ -3744,35 +3685,31 @@ static bool are_states(const struct state *one, const struct state *other)
     return memcmp(one, other, sizeof *one) == 0;
 }
 
-static enum rrcache_status call_response(struct rrcache *cache)
+/* Stores a response with an alias and so many addresses of its target. */
+static enum rrcache_status call_with_alias(struct rrcache *cache, const char *alias,
+                                           const char *target, unsigned count)
 {
     static struct message message;
     struct rrcache_answer answer = blank();
     struct rrcache_report report;
-    begin(&message, AA, "chain.example", A);
-    add_alias(&message, "chain.example", "far.example", 100);
-    add_addresses(&message, "far.example", 5);
-    enum rrcache_status status =
-        try_to_store(cache, &message, "chain.example", A, &report, &answer);
+    begin(&message, AA, alias, A);
+    add_alias(&message, alias, target, 100);
+    add_addresses(&message, target, count);
+    enum rrcache_status status = try_to_store(cache, &message, alias, A, &report, &answer);
     NEED(status == RRCACHE_DONE ? answer.aliases == 1 && count_of(&answer) == 2
                                 : is_empty(&answer));
     return status;
 }
 
+static enum rrcache_status call_response(struct rrcache *cache)
+{
+    return call_with_alias(cache, "chain.example", "far.example", 5);
+}
+
 /* It does not fit surely, and so is stored one by one. */
 static enum rrcache_status call_large_response(struct rrcache *cache)
 {
-    static struct message message;
-    struct rrcache_answer answer = blank();
-    struct rrcache_report report;
-    begin(&message, AA, "large.example", A);
-    add_alias(&message, "large.example", "many.example", 100);
-    add_addresses(&message, "many.example", 900);
-    enum rrcache_status status =
-        try_to_store(cache, &message, "large.example", A, &report, &answer);
-    NEED(status == RRCACHE_DONE ? answer.aliases == 1 && count_of(&answer) == 2
-                                : is_empty(&answer));
-    return status;
+    return call_with_alias(cache, "large.example", "many.example", 900);
 }
 
 static enum rrcache_status call_set(struct rrcache *cache)

@@ -29,20 +29,21 @@
 #include <string.h>
 #include <time.h>
 
-#include "rrcache.h"
+#include "drawn.h"
+#include "structs.h"
 
 enum { THREADS = 8, MOST_SHELVES = 16, KINDS = RRCACHE_FAILED + 1 };
 /* In the place of a kind: a miss, or a failure of that name. With an answer that has aliases a
    caller is not told whether it is the question that failed, or the name at the end. */
 enum { UNSURE = 0 };
-enum { CNAME = 5, NS = 2, SOA = 6, AAAA = 28, ANY = 255, NO_ERROR = 0, SERVFAIL = 2, NX = 3 };
+enum { NO_ERROR = 0, SERVFAIL = 2, NX = 3 };
 /* Names of each family, and those that an alias may lead to, which stand first. */
 enum { HOSTS = 96, DENIED = 32, ALIASES = 48, ZONES = 16, GLUE = ZONES, FAILING = 16 };
 enum { TARGETS = HOSTS + DENIED + ALIASES, SUBJECTS = TARGETS + ZONES + GLUE + FAILING };
 /* Octets of a name, and of that those of its first label, whose letters have a case. */
 enum { NAME = 75, LETTERS = 60, BITS = LETTERS / 2 };
 enum { RECORD = 16, MOST_RECORDS = 200, MOST_DATA = MOST_RECORDS * (2 + RECORD), SOA_OCTETS = 22 };
-enum { BEGIN = 1000, MOST_TICKS = 500000, LONG_TTL = 604800, MAX_STALE = 50 };
+enum { MOST_TICKS = 500000, LONG_TTL = 604800, MAX_STALE = 50 };
 /* Of failures of hosts and aliases, and of the family that has failures alone: there the version is
    added to it. */
 enum { FAILURE_TTL = 30, FAILING_TTL = 1000000 };
@@ -114,10 +115,9 @@ static bool is_large, is_whole, is_loose;
 static const char *folder;
 static double seconds;
 static long rounds;
-static atomic_uint now = BEGIN;
+static atomic_uint now = FIRST;
 static atomic_int running, faults, is_over;
 static atomic_long calls;
-static const uint8_t ZONE_NAME[] = "\7example";
 
 /* ---- Numbers that threads share. They order nothing, since what they ordered would hide races
    from what watches threads. Helgrind takes an atomic exchange for no race, but a mere store for
@@ -141,10 +141,7 @@ static void expect(bool holds, const char *what)
 
 static uint64_t draw(struct worker *worker)
 {
-    worker->state ^= worker->state << 13;
-    worker->state ^= worker->state >> 7;
-    worker->state ^= worker->state << 17;
-    return worker->state >> 8;
+    return drawn_from(&worker->state) >> 8;
 }
 
 static uint32_t mix(uint32_t one, uint32_t other)
@@ -352,8 +349,8 @@ static bool has_body(const struct look *look, const struct subject *subject, uin
     struct body *expected = &look->worker->expected;
     const struct rrcache_parsed_set *set = &rrset->set;
     bool denies = is_denial(rrset);
-    const uint8_t *owner = denies ? ZONE_NAME : expected->owner;
-    size_t owner_size = denies ? sizeof ZONE_NAME : NAME;
+    const uint8_t *owner = denies ? EXAMPLE : expected->owner;
+    size_t owner_size = denies ? sizeof EXAMPLE : NAME;
     make_body(subject, version, moment, expected);
     return set->owner_size == owner_size && memcmp(set->owner, owner, owner_size) == 0
            && set->data_size == expected->size
@@ -413,7 +410,7 @@ static void expect_nothing(const struct look *look, struct subject *end,
     note_told(look, end->shelf, has_failed && answer->aliases != 0 ? UNSURE : answer->kind);
     expect(has_failed == (from != 0), "a failure has a moment to try again");
     if (has_failed && end->family == FAILURE)
-        expect(is_due(look, end, (uint32_t)(from - BEGIN - FAILING_TTL)), "a failure is due");
+        expect(is_due(look, end, (uint32_t)(from - FIRST - FAILING_TTL)), "a failure is due");
     else if (has_failed)
         expect(seen(&look->asked->failures) + seen(&end->failures) != 0
                    && from > look->request->moment && from <= seen(&now) + FAILURE_TTL,
@@ -546,7 +543,7 @@ static void expect_delegation(const struct look *look, const struct rrcache_answ
         expect(rrset.set.data_size == sizeof servers && memcmp(rrset.set.data, servers, 3) == 0
                    && rrset.set.owner_size == answer->end.size && rrset.set.rtype == NS
                    && rrset.trust == RRCACHE_ADDITIONAL
-                   && rrset.set.ttl == LONG_TTL - (look->request->moment - BEGIN),
+                   && rrset.set.ttl == LONG_TTL - (look->request->moment - FIRST),
                "a delegation is the one that was stored");
     expect(!rrcache_next(answer, &rrset), "a delegation is one RRset");
 }
@@ -604,18 +601,11 @@ static bool is_kept(enum rrcache_status status, uint32_t outcome, const struct p
 static bool store_set(struct worker *worker, const struct subject *subject, const struct plan *plan)
 {
     const struct body *body = &worker->body;
-    const struct rrcache_set set = {
-        .owner = body->owner,
-        .owner_size = NAME,
-        .rtype = subject->rtype,
-        .rclass = RRCACHE_IN,
-        .trust = plan->trust,
-        .ttl = plan->ttl,
-        .data = body->data,
-        .data_size = body->size,
-        .moment = spelled(body->owner) >> BITS,
-    };
+    struct rrcache_set set =
+        plain_set(body->owner, NAME, subject->rtype, plan->ttl, body->data, body->size);
     uint32_t outcome = 0;
+    set.trust = plan->trust;
+    set.moment = spelled(body->owner) >> BITS;
     enum rrcache_status status = rrcache_store_set(cache, &set, &outcome);
     return is_kept(status, outcome, plan);
 }
@@ -624,35 +614,22 @@ static bool store_negative(struct worker *worker, const struct subject *subject,
                            const struct plan *plan)
 {
     const struct body *body = &worker->body;
-    const struct rrcache_negative negative = {
-        .name = body->owner,
-        .name_size = NAME,
-        .rtype = subject->rtype,
-        .rclass = RRCACHE_IN,
-        .kind = plan->what == NODATA ? RRCACHE_NODATA : RRCACHE_NXDOMAIN,
-        .trust = plan->trust,
-        .ttl = plan->ttl,
-        .soa_owner = ZONE_NAME,
-        .soa_owner_size = sizeof ZONE_NAME,
-        .soa = body->data + 2,
-        .soa_size = SOA_OCTETS,
-        .moment = spelled(body->owner) >> BITS,
-    };
+    enum rrcache_kind kind = plan->what == NODATA ? RRCACHE_NODATA : RRCACHE_NXDOMAIN;
+    struct rrcache_negative negative =
+        plain_negative(body->owner, NAME, subject->rtype, kind, plan->ttl);
     uint32_t outcome = 0;
+    negative.trust = plan->trust;
+    negative.soa = body->data + 2;
+    negative.soa_size = SOA_OCTETS;
+    negative.moment = spelled(body->owner) >> BITS;
     enum rrcache_status status = rrcache_store_negative(cache, &negative, &outcome);
     return is_kept(status, outcome, plan);
 }
 
 static bool store_failing(const struct subject *subject, uint32_t version)
 {
-    const struct rrcache_failure failure = {
-        .name = subject->octets,
-        .name_size = NAME,
-        .rtype = subject->rtype,
-        .rclass = RRCACHE_IN,
-        .ttl = FAILING_TTL + version,
-        .moment = BEGIN,
-    };
+    const struct rrcache_failure failure =
+        plain_failure(subject->octets, NAME, subject->rtype, FAILING_TTL + version);
     uint32_t outcome = 0;
     enum rrcache_status status = rrcache_store_failure(cache, &failure, &outcome);
     expect(status == RRCACHE_DONE && outcome == RRCACHE_KEPT, "a failure is kept");
@@ -704,8 +681,8 @@ static struct rrcache_parsed_set set_of(const struct subject *subject, const str
                                         const struct body *body)
 {
     return (struct rrcache_parsed_set){
-        .owner = plan->what == SET ? body->owner : ZONE_NAME,
-        .owner_size = plan->what == SET ? NAME : sizeof ZONE_NAME,
+        .owner = plan->what == SET ? body->owner : EXAMPLE,
+        .owner_size = plan->what == SET ? NAME : sizeof EXAMPLE,
         .rtype = plan->what == SET ? subject->rtype : SOA,
         .rclass = RRCACHE_IN,
         .ttl = plan->ttl,
@@ -762,8 +739,8 @@ static void store_parsed(struct reply *reply, struct rrcache_report *report,
     const struct rrcache_response response = {
         .octets = worker->message,
         .size = size,
-        .zone = ZONE_NAME,
-        .zone_size = sizeof ZONE_NAME,
+        .zone = EXAMPLE,
+        .zone_size = sizeof EXAMPLE,
         .moment = reply->moment,
         .clears_denied = draw(worker) % 2,
     };
@@ -869,14 +846,9 @@ static void store_failure(struct worker *worker)
     uint32_t outcome = 0;
     atomic_fetch_add_explicit(&subject->failures, 1, memory_order_relaxed);
     ask(&reply);
-    const struct rrcache_failure failure = {
-        .name = reply.query.name,
-        .name_size = reply.query.name_size,
-        .rtype = AAAA,
-        .rclass = RRCACHE_IN,
-        .ttl = FAILURE_TTL,
-        .moment = reply.moment,
-    };
+    struct rrcache_failure failure =
+        plain_failure(reply.query.name, reply.query.name_size, AAAA, FAILURE_TTL);
+    failure.moment = reply.moment;
     if (draw(worker) % 2 == 0) {
         reply.parsed.rcode = SERVFAIL;
         store_parsed(&reply, &report, RRCACHE_RESPONSE_FAILURE);
@@ -1058,7 +1030,7 @@ static void name_subject(uint32_t number)
     for (int at = 0; at < LETTERS; at++)
         subject->octets[1 + at] = (uint8_t)('a' + at % 26);
     snprintf((char *)subject->octets + 1 + LETTERS, 6, "\4s%03u", (unsigned)number % 1000);
-    memcpy(subject->octets + NAME - sizeof ZONE_NAME, ZONE_NAME, sizeof ZONE_NAME);
+    memcpy(subject->octets + NAME - sizeof EXAMPLE, EXAMPLE, sizeof EXAMPLE);
     expect(rrcache_make_name(&name, subject->octets, NAME, &parts) == RRCACHE_DONE,
            "a name is made");
     subject->shelf = name.part;
@@ -1069,18 +1041,10 @@ static void name_subject(uint32_t number)
 static void store_base(size_t from)
 {
     static const uint8_t servers[] = {0, 1, 0};
-    const struct rrcache_set set = {
-        .owner = ZONE_NAME + from,
-        .owner_size = sizeof ZONE_NAME - from,
-        .rtype = NS,
-        .rclass = RRCACHE_IN,
-        .trust = RRCACHE_ADDITIONAL,
-        .ttl = LONG_TTL,
-        .data = servers,
-        .data_size = sizeof servers,
-        .moment = BEGIN,
-    };
+    struct rrcache_set set =
+        plain_set(EXAMPLE + from, sizeof EXAMPLE - from, NS, LONG_TTL, OF(servers));
     uint32_t outcome = 0;
+    set.trust = RRCACHE_ADDITIONAL;
     expect(rrcache_store_set(cache, &set, &outcome) == RRCACHE_DONE && outcome == RRCACHE_KEPT,
            "a delegation is stored");
 }
@@ -1132,7 +1096,7 @@ static void work_all(bool records_parts)
         pthread_create(&recorder, NULL, record_parts, NULL);
     while (atomic_fetch_add(&running, 0) != 0) {
         nanosleep(&tick, NULL);
-        if (seen(&now) < BEGIN + MOST_TICKS)
+        if (seen(&now) < FIRST + MOST_TICKS)
             note(&now, seen(&now) + 1);
         if (seconds_now() > end)
             atomic_fetch_or(&is_over, 1);
@@ -1155,7 +1119,7 @@ static void prepare(void)
     if (is_whole)
         expect(rrcache_record_all(cache) == RRCACHE_DONE, "all is recorded");
     store_base(0);
-    store_base(sizeof ZONE_NAME - 1);
+    store_base(sizeof EXAMPLE - 1);
     for (int at = 0; at < SUBJECTS; at++)
         store_version(&workers[0], &subjects[at]);
 }
@@ -1171,7 +1135,7 @@ static void tell_end(void)
     tell_stats(&workers[0]);
     expect(rrcache_stats(cache, &stats) == RRCACHE_DONE, "what was done is told");
     rrcache_stats_text(&stats, text, sizeof text);
-    printf("calls %ld moments %u %s faults %d\n", (long)calls, (unsigned)seen(&now) - BEGIN, text,
+    printf("calls %ld moments %u %s faults %d\n", (long)calls, (unsigned)seen(&now) - FIRST, text,
            (int)faults);
 }
 

@@ -4,46 +4,25 @@
    with --wrap for nanosleep, with which a call waits. The last line is 'N passed, M failed'. */
 #include "places.h"
 
-#include <stdio.h>
-#include <time.h>
+#include "caches.h"
+#include "sleeps.h"
 
-#include "expect.h"
-
-enum { A = 1, FIRST = 1000 };
 static const uint8_t NAME[] = "\3www\7example";
 
 static struct rrcache *cache;
 
-/* How often a call has begun to sleep. */
-static atomic_uint sleeps;
-
-int __real_nanosleep(const struct timespec *wanted, struct timespec *left);
-int __wrap_nanosleep(const struct timespec *wanted, struct timespec *left);
-
-int __wrap_nanosleep(const struct timespec *wanted, struct timespec *left)
-{
-    atomic_fetch_add(&sleeps, 1);
-    return __real_nanosleep(wanted, left);
-}
-
 /* Waits until a call has slept some times more, but not for more than five seconds. */
 static bool wait_for(unsigned times)
 {
-    const struct timespec moment = {.tv_nsec = 1000000};
     unsigned before = atomic_load(&sleeps);
     for (int i = 0; i < 5000 && atomic_load(&sleeps) - before < times; i++)
-        __real_nanosleep(&moment, NULL);
+        wait_a_little();
     return atomic_load(&sleeps) - before >= times;
 }
 
 static void *store(void *done)
 {
-    const struct rrcache_failure failure = {.name = NAME,
-                                            .name_size = sizeof NAME,
-                                            .rtype = A,
-                                            .rclass = RRCACHE_IN,
-                                            .ttl = 30,
-                                            .moment = FIRST};
+    const struct rrcache_failure failure = plain_failure(OF(NAME), A, 30);
     uint32_t outcome;
     *(bool *)done = rrcache_store_failure(cache, &failure, &outcome) == RRCACHE_DONE;
     return NULL;
@@ -53,12 +32,7 @@ static void *look_up(void *done)
 {
     uint8_t space[512];
     struct rrcache_answer answer = {.buffer = space, .room = sizeof space};
-    const struct rrcache_request request = {.name = NAME,
-                                            .name_size = sizeof NAME,
-                                            .rtype = A,
-                                            .rclass = RRCACHE_IN,
-                                            .moment = FIRST,
-                                            .mode = RRCACHE_NO_STALE};
+    const struct rrcache_request request = plain_request(OF(NAME), A);
     *(bool *)done = rrcache_lookup(cache, &request, &answer) == RRCACHE_DONE;
     return NULL;
 }
@@ -70,7 +44,7 @@ static void check(void *(*call)(void *))
     const struct rrcache_config config = {.shelves = 1, .readers = 1, .seed = {1}};
     pthread_t thread;
     bool done = false;
-    EXPECT(rrcache_open(&cache, &config) == RRCACHE_DONE);
+    cache = open_by(&config);
     struct part *part = cache->part;
     struct place *place = take_place(cache, part);
     EXPECT(pthread_create(&thread, NULL, call, &done) == 0);

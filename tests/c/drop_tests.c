@@ -4,7 +4,7 @@
    for the calls that free it. The last line is 'N passed, M failed'. */
 #include "cache.h"
 
-#include "expect.h"
+#include "caches.h"
 
 enum { SHELVES = 4 };
 
@@ -41,7 +41,7 @@ static int refuse(void *state, uint64_t shelf, const void *octets, size_t size)
 static void test_archives_that_are_not_written(void)
 {
     const struct rrcache_config config = {.shelves = SHELVES, .readers = 1, .seed = {1}};
-    EXPECT(rrcache_open(&cache, &config) == RRCACHE_DONE);
+    cache = open_by(&config);
     EXPECT(rrcache_record_all(cache) == RRCACHE_DONE);
     EXPECT(rrcache_stop_recording_all(cache, refuse, NULL) == RRCACHE_SINK);
     EXPECT(freed == SHELVES && dropped == 0);

@@ -11,15 +11,12 @@
 #include <stdio.h>
 #include <string.h>
 
-#include "expect.h"
+#include "caches.h"
 
-enum { A = 1, CNAME = 5, TXT = 16, AAAA = 28, ANY = 255, LAST_TYPE = 65535 };
-enum { FIRST = 1000, NOW = 1100, MAX_STALE = 3600 };
-static const uint8_t NAME[] = "\3www\7example", ZONE[] = "\7example";
+enum { LAST_TYPE = 65535, NOW = 1100, MAX_STALE = 3600 };
+static const uint8_t NAME[] = "\3www\7example";
 static const uint8_t ALIAS[] = "\5alias\7example", OTHER[] = "\5other\7example";
 static const uint8_t DATUM[] = {0, 4, 192, 0, 2, 1}, ROOT[] = {0, 1, 0};
-/* An SOA record of two roots and five numbers, of which MINIMUM is 60. */
-static const uint8_t SOA[] = {0, 0, 0, 0, 0, 1, 0, 0, 0, 2, 0, 0, 0, 3, 0, 0, 0, 4, 0, 0, 0, 60};
 
 /* ---- Calls between the steps. */
 
@@ -39,12 +36,9 @@ static struct rrcache_answer look(struct rrcache *cache, const uint8_t *name, si
 {
     static uint8_t space[RRCACHE_ANSWER_OCTETS];
     struct rrcache_answer answer = {.buffer = space, .room = sizeof space};
-    const struct rrcache_request request = {.name = name,
-                                            .name_size = size,
-                                            .rtype = rtype,
-                                            .rclass = RRCACHE_IN,
-                                            .moment = NOW,
-                                            .mode = RRCACHE_STALE_NOW};
+    struct rrcache_request request = plain_request(name, size, rtype);
+    request.moment = NOW;
+    request.mode = RRCACHE_STALE_NOW;
     EXPECT(rrcache_lookup(cache, &request, &answer) == RRCACHE_DONE);
     return answer;
 }
@@ -52,6 +46,12 @@ static struct rrcache_answer look(struct rrcache *cache, const uint8_t *name, si
 static uint32_t kind_of(struct rrcache *cache, uint16_t rtype)
 {
     return look(cache, NAME, sizeof NAME, rtype).kind;
+}
+
+static void expect_of_types(struct rrcache *cache, uint32_t kind)
+{
+    for (int i = 0; i < TYPES_COUNT; i++)
+        EXPECT(kind_of(cache, TYPES[i]) == kind);
 }
 
 static void look_up_types(struct rrcache *cache)
@@ -82,24 +82,13 @@ int __wrap_pthread_mutex_unlock(pthread_mutex_t *lock)
 
 /* ---- What is stored of the name. */
 
-static void keep_set(struct rrcache *cache, const struct rrcache_set *set)
-{
-    uint32_t outcome = 0;
-    EXPECT(rrcache_store_set(cache, set, &outcome) == RRCACHE_DONE && outcome == RRCACHE_KEPT);
-}
-
 static void keep_of_rank(struct rrcache *cache, uint16_t rtype, uint32_t ttl, uint64_t moment,
                          enum rrcache_trust trust)
 {
-    keep_set(cache, &(struct rrcache_set){.owner = NAME,
-                                          .owner_size = sizeof NAME,
-                                          .rtype = rtype,
-                                          .rclass = RRCACHE_IN,
-                                          .trust = trust,
-                                          .ttl = ttl,
-                                          .data = DATUM,
-                                          .data_size = sizeof DATUM,
-                                          .moment = moment});
+    struct rrcache_set set = plain_set(OF(NAME), rtype, ttl, OF(DATUM));
+    set.trust = trust;
+    set.moment = moment;
+    EXPECT(store_set(cache, set) == RRCACHE_KEPT);
 }
 
 static void keep(struct rrcache *cache, uint16_t rtype, uint32_t ttl, uint64_t moment)
@@ -109,50 +98,23 @@ static void keep(struct rrcache *cache, uint16_t rtype, uint32_t ttl, uint64_t m
 
 static void keep_alias(struct rrcache *cache)
 {
-    keep_set(cache, &(struct rrcache_set){.owner = ALIAS,
-                                          .owner_size = sizeof ALIAS,
-                                          .rtype = CNAME,
-                                          .rclass = RRCACHE_IN,
-                                          .trust = RRCACHE_AUTHORITATIVE_ANSWER,
-                                          .ttl = 3600,
-                                          .data = ROOT,
-                                          .data_size = sizeof ROOT,
-                                          .moment = FIRST});
+    EXPECT(store_set(cache, plain_set(OF(ALIAS), CNAME, 3600, OF(ROOT))) == RRCACHE_KEPT);
 }
 
 /* Stores an address under another name, behind the first release of a lock alone. */
 static void keep_other(struct rrcache *cache)
 {
-    keep_set(cache, &(struct rrcache_set){.owner = OTHER,
-                                          .owner_size = sizeof OTHER,
-                                          .rtype = A,
-                                          .rclass = RRCACHE_IN,
-                                          .trust = RRCACHE_AUTHORITATIVE_ANSWER,
-                                          .ttl = 3600,
-                                          .data = DATUM,
-                                          .data_size = sizeof DATUM,
-                                          .moment = FIRST});
+    EXPECT(store_set(cache, plain_set(OF(OTHER), A, 3600, OF(DATUM))) == RRCACHE_KEPT);
     between = look_up_types;
 }
 
 static void deny_of_rank(struct rrcache *cache, uint16_t rtype, enum rrcache_kind kind,
                          uint32_t ttl, uint64_t moment, enum rrcache_trust trust)
 {
-    const struct rrcache_negative negative = {.name = NAME,
-                                              .name_size = sizeof NAME,
-                                              .rtype = rtype,
-                                              .rclass = RRCACHE_IN,
-                                              .kind = kind,
-                                              .trust = trust,
-                                              .ttl = ttl,
-                                              .soa_owner = ZONE,
-                                              .soa_owner_size = sizeof ZONE,
-                                              .soa = SOA,
-                                              .soa_size = sizeof SOA,
-                                              .moment = moment};
-    uint32_t outcome = 0;
-    EXPECT(rrcache_store_negative(cache, &negative, &outcome) == RRCACHE_DONE
-           && outcome == RRCACHE_KEPT);
+    struct rrcache_negative negative = plain_negative(OF(NAME), rtype, kind, ttl);
+    negative.trust = trust;
+    negative.moment = moment;
+    EXPECT(store_negative(cache, negative) == RRCACHE_KEPT);
 }
 
 static void deny(struct rrcache *cache, uint16_t rtype, enum rrcache_kind kind, uint32_t ttl,
@@ -173,26 +135,23 @@ static struct rrcache *open_cache(uint64_t most_keys)
 {
     const struct rrcache_config config = {
         .shelves = 1, .readers = 2, .keys = most_keys, .max_stale = MAX_STALE, .seed = {1}};
-    struct rrcache *cache = NULL;
-    EXPECT(rrcache_open(&cache, &config) == RRCACHE_DONE && cache != NULL);
-    return cache;
+    return open_by(&config);
 }
 
 /* Forgets the name while calls are made in between, and returns the statistics then. */
 static struct rrcache_stats forget_among(struct rrcache *cache,
                                          void (*calls)(struct rrcache *cache))
 {
-    const struct rrcache_request request = {
-        .name = NAME, .name_size = sizeof NAME, .rtype = ANY, .rclass = RRCACHE_IN, .moment = NOW};
+    struct rrcache_request request = plain_request(OF(NAME), ANY);
     struct rrcache_stats stats = {0};
+    request.moment = NOW;
     memset(told, 0, sizeof told);
     between = calls;
     watched = cache;
     EXPECT(rrcache_forget(cache, &request) == RRCACHE_DONE);
     watched = NULL;
     EXPECT(rrcache_stats(cache, &stats) == RRCACHE_DONE);
-    for (int i = 0; i < TYPES_COUNT; i++)
-        EXPECT(kind_of(cache, TYPES[i]) == RRCACHE_MISS);
+    expect_of_types(cache, RRCACHE_MISS);
     return stats;
 }
 
@@ -225,8 +184,7 @@ static void test_that_nothing_older_comes_back(void)
     struct rrcache *cache = open_cache(64);
     keep_types(cache);
     deny(cache, A, RRCACHE_NXDOMAIN, 3600, NOW);
-    for (int i = 0; i < TYPES_COUNT; i++)
-        EXPECT(kind_of(cache, TYPES[i]) == RRCACHE_NXDOMAIN);
+    expect_of_types(cache, RRCACHE_NXDOMAIN);
     forget_watched(cache);
     EXPECT(told[RRCACHE_FRESH] == 0 && told[RRCACHE_STALE] == 0 && told[RRCACHE_NODATA] == 0);
     /* Each type is forgotten in a step of its own, and the NXDOMAIN after them. */
@@ -241,8 +199,7 @@ static void test_that_an_expired_nxdomain_hides_until_it_goes(void)
     struct rrcache *cache = open_cache(64);
     keep_types(cache);
     deny(cache, A, RRCACHE_NXDOMAIN, 60, FIRST);
-    for (int i = 0; i < TYPES_COUNT; i++)
-        EXPECT(kind_of(cache, TYPES[i]) == RRCACHE_MISS);
+    expect_of_types(cache, RRCACHE_MISS);
     forget_watched(cache);
     EXPECT(told[RRCACHE_FRESH] == 0 && told[RRCACHE_STALE] == 0 && told[RRCACHE_NODATA] == 0
            && told[RRCACHE_NXDOMAIN] == 0 && told[RRCACHE_MISS] >= (TYPES_COUNT + 1) * TYPES_COUNT);
@@ -271,8 +228,7 @@ static void test_that_nothing_of_lower_rank_comes_out(void)
     deny(cache, A, RRCACHE_NXDOMAIN, 3600, FIRST);
     keep_of_rank(cache, A, 3600, FIRST, RRCACHE_NON_AUTHORITATIVE_ANSWER);
     keep_of_rank(cache, TXT, 60, FIRST, RRCACHE_NON_AUTHORITATIVE_ANSWER);
-    for (int i = 0; i < TYPES_COUNT; i++)
-        EXPECT(kind_of(cache, TYPES[i]) == RRCACHE_NXDOMAIN);
+    expect_of_types(cache, RRCACHE_NXDOMAIN);
     forget_watched(cache);
     EXPECT(told[RRCACHE_FRESH] == 0 && told[RRCACHE_STALE] == 0
            && told[RRCACHE_NXDOMAIN] >= 2 * TYPES_COUNT && told[RRCACHE_MISS] >= TYPES_COUNT);

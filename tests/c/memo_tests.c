@@ -10,16 +10,10 @@
 #include <stdlib.h>
 #include <string.h>
 
-#include "expect.h"
+#include "caches.h"
+#include "drawn.h"
 
-enum { A = 1, CNAME = RRTYPE_CNAME, TXT = 16, AAAA = 28, DNAME = RRTYPE_DNAME, ANY = RRTYPE_ANY };
-enum { FIRST = 1000, TTL = 600, OFTEN = 4, ROOM = 1024 };
-
-/* The wire form of a name. */
-struct wire {
-    uint8_t octets[256];
-    size_t size;
-};
+enum { TTL = 600, OFTEN = 4, ROOM = 1024 };
 
 /* An answer with its buffer. */
 struct reply {
@@ -32,9 +26,7 @@ static struct rrcache *opened(uint64_t octets, uint64_t shelves, uint8_t seed)
 {
     const struct rrcache_config config = {
         .octets = octets, .shelves = shelves, .readers = 1, .max_stale = 100, .seed = {seed, 1}};
-    struct rrcache *cache = NULL;
-    NEED(rrcache_open(&cache, &config) == RRCACHE_DONE);
-    return cache;
+    return open_by(&config);
 }
 
 /* A name of labels of one letter and one label that is a number. */
@@ -56,19 +48,20 @@ static struct wire in_capitals(struct wire wire)
 }
 
 static void store_data(struct rrcache *cache, const struct wire *owner, uint16_t rtype,
-                       uint64_t moment, const void *data, size_t size)
+                       uint64_t moment, const uint8_t *data, size_t size)
 {
-    uint32_t outcome = 0;
-    const struct rrcache_set set = {.owner = owner->octets,
-                                    .owner_size = owner->size,
-                                    .rtype = rtype,
-                                    .rclass = RRCACHE_IN,
-                                    .trust = RRCACHE_AUTHORITATIVE_ANSWER,
-                                    .ttl = TTL,
-                                    .data = data,
-                                    .data_size = size,
-                                    .moment = moment};
-    NEED(rrcache_store_set(cache, &set, &outcome) == RRCACHE_DONE && outcome == RRCACHE_KEPT);
+    struct rrcache_set set = plain_set(owner->octets, owner->size, rtype, TTL, data, size);
+    set.moment = moment;
+    NEED(store_set(cache, set) == RRCACHE_KEPT);
+}
+
+/* Stores a record whose data are a name. */
+static void store_target(struct rrcache *cache, const struct wire *owner, uint64_t moment,
+                         const struct wire *target)
+{
+    uint8_t data[2 + sizeof target->octets] = {0, (uint8_t)target->size};
+    memcpy(data + 2, target->octets, target->size);
+    store_data(cache, owner, CNAME, moment, data, 2 + target->size);
 }
 
 /* Stores an address that says a number. */
@@ -92,6 +85,12 @@ static struct rrcache_request request_of(uint16_t rtype, uint64_t moment)
 {
     return (struct rrcache_request){
         .rtype = rtype, .rclass = RRCACHE_IN, .moment = moment, .mode = RRCACHE_NO_STALE};
+}
+
+/* Asks for the address of a name at the moment at which it is stored. */
+static void ask(struct rrcache *cache, const struct wire *name, struct reply *reply)
+{
+    ask_in(cache, name, request_of(A, FIRST), ROOM, reply);
 }
 
 /* Whether an answer is the address that says a number. */
@@ -128,7 +127,7 @@ static void expect_numbers(struct rrcache *cache, const struct wire *names, unsi
     for (unsigned turn = 0; turn < 2 * OFTEN; turn++)
         for (unsigned i = 0; i < count; i++)
             for (unsigned again = turn < OFTEN ? 1 : OFTEN; again > 0; again--) {
-                ask_in(cache, &names[i], request_of(A, FIRST), ROOM, &reply);
+                ask(cache, &names[i], &reply);
                 EXPECT(is_number(&reply, i)
                        && is_made(&reply.answer.end, &names[i], seed, shelves));
             }
@@ -227,7 +226,7 @@ static void test_letters_in_any_case(void)
     store(cache, &upper, 5);
     for (unsigned turn = 0; turn < 4; turn++)
         for (unsigned again = 0; again < OFTEN; again++) {
-            ask_in(cache, turn % 2 == 0 ? &upper : &lower, request_of(A, FIRST), ROOM, &reply);
+            ask(cache, turn % 2 == 0 ? &upper : &lower, &reply);
             EXPECT(is_number(&reply, 5) && is_made(&reply.answer.end, &lower, 7, 4));
         }
     rrcache_close(cache);
@@ -241,13 +240,13 @@ static void test_other_seed_after_reopening(void)
     for (uint8_t seed = 1; seed < 9; seed++) {
         struct rrcache *cache = opened(64 << 20, 16, seed);
         for (unsigned again = 0; again < OFTEN; again++) {
-            ask_in(cache, &name, request_of(A, FIRST), ROOM, &reply);
+            ask(cache, &name, &reply);
             EXPECT(reply.answer.kind == RRCACHE_MISS
                    && is_made(&reply.answer.end, &name, seed, 16));
         }
         store(cache, &name, seed);
         for (unsigned again = 0; again < OFTEN; again++) {
-            ask_in(cache, &name, request_of(A, FIRST), ROOM, &reply);
+            ask(cache, &name, &reply);
             EXPECT(is_number(&reply, seed) && is_made(&reply.answer.end, &name, seed, 16));
         }
         rrcache_close(cache);
@@ -268,7 +267,7 @@ static void test_other_questions(void)
     store_data(cache, &name, TXT, FIRST, text, sizeof text);
     for (unsigned again = 0; again < OFTEN; again++) {
         struct rrcache_request chaos = request_of(A, FIRST), stale = request_of(A, FIRST + TTL);
-        ask_in(cache, &name, request_of(A, FIRST), ROOM, &reply);
+        ask(cache, &name, &reply);
         EXPECT(is_number(&reply, 5));
         ask_in(cache, &name, request_of(TXT, FIRST), ROOM, &reply);
         rrset = (struct rrcache_rrset){0};
@@ -300,24 +299,20 @@ static void test_changes_are_told(void)
 {
     static struct reply reply;
     const struct wire name = wire_of(1), other = wire_of(2);
-    const struct rrcache_request forgotten = {.name = name.octets,
-                                              .name_size = name.size,
-                                              .rtype = A,
-                                              .rclass = RRCACHE_IN,
-                                              .moment = FIRST};
+    const struct rrcache_request forgotten = plain_request(name.octets, name.size, A);
     struct rrcache *cache = opened(64 << 20, 2, 7);
     for (unsigned number = 0; number < 50; number++) {
         store(cache, &name, number);
         for (unsigned again = 0; again < OFTEN; again++) {
-            ask_in(cache, &name, request_of(A, FIRST), ROOM, &reply);
+            ask(cache, &name, &reply);
             EXPECT(is_number(&reply, number));
             store(cache, &other, again);
-            ask_in(cache, &name, request_of(A, FIRST), ROOM, &reply);
+            ask(cache, &name, &reply);
             EXPECT(is_number(&reply, number));
         }
         NEED(rrcache_forget(cache, &forgotten) == RRCACHE_DONE);
         for (unsigned again = 0; again < OFTEN; again++) {
-            ask_in(cache, &name, request_of(A, FIRST), ROOM, &reply);
+            ask(cache, &name, &reply);
             EXPECT(reply.answer.kind == RRCACHE_MISS && is_made(&reply.answer.end, &name, 7, 2));
         }
     }
@@ -332,12 +327,10 @@ static void test_targets_of_aliases_are_told(void)
     for (unsigned number = 0; number < 32; number++) {
         const struct wire alias = wire_of(number), target = wire_of(1000 + number);
         struct rrcache_rrset rrset = {0};
-        uint8_t data[2 + 256] = {0, (uint8_t)target.size};
-        memcpy(data + 2, target.octets, target.size);
-        store_data(cache, &alias, CNAME, FIRST, data, 2 + target.size);
+        store_target(cache, &alias, FIRST, &target);
         for (unsigned again = 0; again < OFTEN; again++) {
             store(cache, &target, again / 2);
-            ask_in(cache, &alias, request_of(A, FIRST), ROOM, &reply);
+            ask(cache, &alias, &reply);
             rrset.next = 0;
             EXPECT(reply.answer.kind == RRCACHE_FRESH && reply.answer.aliases == 1
                    && rrcache_next(&reply.answer, &rrset) && rrset.set.rtype == CNAME
@@ -380,7 +373,7 @@ static void test_room_and_overlap(void)
     const struct wire name = wire_of(1);
     struct rrcache *cache = opened(64 << 20, 4, 7);
     store(cache, &name, 5);
-    ask_in(cache, &name, request_of(A, FIRST), ROOM, &reply);
+    ask(cache, &name, &reply);
     size_t size = reply.answer.size;
     for (unsigned again = 0; again < OFTEN; again++) {
         struct rrcache_request request = request_of(A, FIRST);
@@ -408,7 +401,7 @@ static void test_a_name_in_use_stays(void)
         const struct wire other = wire_of(number);
         store(cache, &other, number);
         for (unsigned again = 0; again < OFTEN; again++)
-            ask_in(cache, &name, request_of(A, FIRST), ROOM, &reply);
+            ask(cache, &name, &reply);
         if (number % 100 == 0)
             EXPECT(is_number(&reply, 5));
     }
@@ -423,10 +416,7 @@ static uint64_t state = 88172645463325252u;
 
 static unsigned draw(unsigned below)
 {
-    state ^= state << 13;
-    state ^= state >> 7;
-    state ^= state << 17;
-    return (unsigned)(state >> 8) % below;
+    return (unsigned)(drawn_from(&state) >> 8) % below;
 }
 
 static bool same_replies(const struct reply *one, const struct reply *other)
@@ -480,64 +470,30 @@ static void ask_both(struct rrcache *const caches[2], uint64_t moment, bool may_
 
 static uint32_t store_failing(struct rrcache *cache, const struct wire *name, uint64_t moment)
 {
-    const struct rrcache_failure failure = {.name = name->octets,
-                                            .name_size = name->size,
-                                            .rtype = A,
-                                            .rclass = RRCACHE_IN,
-                                            .ttl = 5,
-                                            .moment = moment};
-    uint32_t outcome = 0;
-    NEED(rrcache_store_failure(cache, &failure, &outcome) == RRCACHE_DONE);
-    return outcome;
+    struct rrcache_failure failure = plain_failure(name->octets, name->size, A, 5);
+    failure.moment = moment;
+    return store_failure(cache, failure);
 }
 
 static uint32_t store_denial(struct rrcache *cache, const struct wire *name, uint64_t moment,
                              enum rrcache_kind kind)
 {
-    static const uint8_t root[1] = {0}, soa[22] = {0};
-    const struct rrcache_negative negative = {.name = name->octets,
-                                              .name_size = name->size,
-                                              .rtype = A,
-                                              .rclass = RRCACHE_IN,
-                                              .kind = kind,
-                                              .trust = RRCACHE_AUTHORITATIVE_ANSWER,
-                                              .ttl = 20,
-                                              .soa_owner = root,
-                                              .soa_owner_size = sizeof root,
-                                              .soa = soa,
-                                              .soa_size = sizeof soa,
-                                              .moment = moment};
-    uint32_t outcome = 0;
-    NEED(rrcache_store_negative(cache, &negative, &outcome) == RRCACHE_DONE);
-    return outcome;
+    struct rrcache_negative negative = plain_negative(name->octets, name->size, A, kind, 20);
+    negative.trust = RRCACHE_AUTHORITATIVE_ANSWER;
+    negative.moment = moment;
+    return store_negative(cache, negative);
 }
 
 static uint32_t store_address(struct rrcache *cache, const struct wire *name, uint64_t moment,
                               unsigned drawn)
 {
     const uint8_t data[] = {0, 4, 192, 0, 2, (uint8_t)drawn};
-    const struct rrcache_set set = {.owner = name->octets,
-                                    .owner_size = name->size,
-                                    .rtype = drawn % 4 == 0 ? TXT : A,
-                                    .rclass = RRCACHE_IN,
-                                    .trust = drawn % 8 == 0 ? RRCACHE_ADDITIONAL
-                                                            : RRCACHE_AUTHORITATIVE_ANSWER,
-                                    .ttl = 1 + drawn % 40,
-                                    .data = data,
-                                    .data_size = sizeof data,
-                                    .moment = moment};
-    uint32_t outcome = 0;
-    NEED(rrcache_store_set(cache, &set, &outcome) == RRCACHE_DONE);
-    return outcome;
-}
-
-static void store_target(struct rrcache *cache, const struct wire *name, uint64_t moment,
-                         unsigned drawn)
-{
-    const struct wire target = wire_of(drawn % NAMES);
-    uint8_t data[2 + 256] = {0, (uint8_t)target.size};
-    memcpy(data + 2, target.octets, target.size);
-    store_data(cache, name, CNAME, moment, data, 2 + target.size);
+    struct rrcache_set set =
+        plain_set(name->octets, name->size, drawn % 4 == 0 ? TXT : A, 1 + drawn % 40, OF(data));
+    set.moment = moment;
+    if (drawn % 8 == 0)
+        set.trust = RRCACHE_ADDITIONAL;
+    return store_set(cache, set);
 }
 
 /* Changes a cache, by what was drawn. */
@@ -545,11 +501,10 @@ static uint32_t change(struct rrcache *cache, const struct wire *name, uint64_t 
                        unsigned what, unsigned drawn)
 {
     struct rrcache_swept swept = {0};
-    const struct rrcache_request request = {.name = name->octets,
-                                            .name_size = name->size,
-                                            .rtype = drawn % 2 == 0 ? A : CNAME,
-                                            .rclass = RRCACHE_IN,
-                                            .moment = moment};
+    const struct wire target = wire_of(drawn % NAMES);
+    struct rrcache_request request =
+        plain_request(name->octets, name->size, drawn % 2 == 0 ? A : CNAME);
+    request.moment = moment;
     if (what == 0)
         return store_failing(cache, name, moment);
     if (what == 1)
@@ -559,7 +514,7 @@ static uint32_t change(struct rrcache *cache, const struct wire *name, uint64_t 
     if (what == 3)
         return rrcache_sweep_all(cache, moment, 1 + drawn % 8, &swept);
     if (what == 4) {
-        store_target(cache, name, moment, drawn);
+        store_target(cache, name, moment, &target);
         return 0;
     }
     return store_address(cache, name, moment, drawn);
@@ -581,8 +536,8 @@ static void test_both_tell_the_same(bool exact_recency)
                                           .max_stale = 100,
                                           .exact_recency = exact_recency,
                                           .seed = {7, 1}};
-    NEED(rrcache_open(&caches[0], &config) == RRCACHE_DONE);
-    NEED(rrcache_open(&caches[1], &config) == RRCACHE_DONE);
+    caches[0] = open_by(&config);
+    caches[1] = open_by(&config);
     for (unsigned step = 0; step < STEPS; step++) {
         const struct wire name = wire_of(draw(NAMES));
         unsigned what = draw(24), drawn = draw(1 << 16);

@@ -5,22 +5,10 @@
 #include "cache.h"
 
 #include <stdio.h>
-#include <string.h>
 
-enum { KEYS = 4096, TURNOVERS = 12, A = 1 };
+#include "caches.h"
 
-static unsigned passed, failed;
-
-static void expect(bool holds, const char *what)
-{
-    passed += holds;
-    failed += !holds;
-    if (!holds)
-        printf("FAIL %s\n", what);
-}
-
-/* What checks need to go on, which is no check of its own. */
-#define NEED(holds) ((holds) ? (void)0 : expect(false, #holds))
+enum { KEYS = 4096, TURNOVERS = 12 };
 
 /* The name of a number. */
 static void make_name(const struct rrcache *cache, unsigned number, struct rrcache_name *name)
@@ -38,19 +26,10 @@ static void store(struct rrcache *cache, unsigned number, bool is_alias)
     static const uint8_t root[] = {0, 1, 0}, address[] = {0, 4, 192, 0, 2, 1};
     struct rrcache_name name;
     make_name(cache, number, &name);
-    const struct rrcache_set set = {
-        .owner = name.octets,
-        .owner_size = name.size,
-        .rtype = is_alias ? RRTYPE_CNAME : A,
-        .rclass = RRCACHE_IN,
-        .trust = RRCACHE_AUTHORITATIVE_ANSWER,
-        .ttl = 300,
-        .data = is_alias ? root : address,
-        .data_size = is_alias ? sizeof root : sizeof address,
-        .moment = 1000,
-    };
-    uint32_t outcome = 0;
-    NEED(rrcache_store_set(cache, &set, &outcome) == RRCACHE_DONE && outcome == RRCACHE_KEPT);
+    struct rrcache_set set = plain_set(name.octets, name.size, A, 300, OF(address));
+    if (is_alias)
+        set = plain_set(name.octets, name.size, CNAME, 300, OF(root));
+    NEED(store_set(cache, set) == RRCACHE_KEPT);
 }
 
 /* How many of some names may be aliases. */
@@ -65,28 +44,27 @@ static unsigned count(const struct rrcache *cache, unsigned from, unsigned step)
     return found;
 }
 
-/* Fills a cache many times over, with aliases as one key in so many. */
+/* Fills a cache many times over, with aliases as one key in so many. No name may be an alias at the
+   beginning, and at the end those that were stored lately may, and few others. */
 static void check(uint64_t shelves, uint64_t octets, unsigned each, unsigned hundredths)
 {
     const struct rrcache_config config = {
         .shelves = shelves, .keys = KEYS, .octets = octets, .seed = {1, 2, 3}};
-    struct rrcache *cache = NULL;
+    struct rrcache *cache = open_by(&config);
     struct rrcache_stats stats;
     unsigned end = TURNOVERS * KEYS;
-    expect(rrcache_open(&cache, &config) == RRCACHE_DONE, "a cache is opened");
-    expect(count(cache, 0, 1) == 0, "in an empty cache no name may be an alias");
+    EXPECT(count(cache, 0, 1) == 0);
     for (unsigned i = 0; i < end; i++)
         store(cache, i, i % each == 0);
-    expect(rrcache_stats(cache, &stats) == RRCACHE_DONE && stats.evicted > end - 2 * KEYS,
-           "keys were evicted");
+    EXPECT(rrcache_stats(cache, &stats) == RRCACHE_DONE && stats.evicted > end - 2 * KEYS);
     unsigned others = count(cache, 2 * end, 1);
     printf("of %d other names %u may be aliases, with 1 in %u\n", KEYS, others, each);
-    expect(others * 100 < hundredths * KEYS, "few other names may be aliases");
+    EXPECT(others * 100 < hundredths * KEYS);
     unsigned held = (unsigned)(stats.keys / 2 / each * each);
     for (unsigned i = each; i < held; i += each) {
         struct rrcache_name name;
         make_name(cache, (end - 1) / each * each - i, &name);
-        expect(may_be_alias(&cache->part[name.part], &name), "what was stored lately may be one");
+        EXPECT(may_be_alias(&cache->part[name.part], &name));
     }
     rrcache_close(cache);
 }
@@ -97,6 +75,5 @@ int main(void)
     check(16, 0, 4, 3);
     check(1, KEYS / 2 * 320, 4, 3);
     check(1, 0, 1, 25);
-    printf("%u passed, %u failed\n", passed, failed);
-    return failed != 0;
+    return told_status();
 }

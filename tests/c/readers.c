@@ -11,9 +11,10 @@
 #include <stdlib.h>
 #include <string.h>
 
-#include "rrcache.h"
+#include "drawn.h"
+#include "structs.h"
 
-enum { NAMES = 400, READERS = 4, MOMENT = 1000, DATUM = 6, BUFFER = 300 };
+enum { NAMES = 400, READERS = 4, DATUM = 6, BUFFER = 300 };
 
 /* A name, as it is written and as it was made for asks, and the version of its address that was
    offered last: 0 where nothing is held. */
@@ -33,23 +34,15 @@ static int rounds = 20000;
 
 static const struct rrcache_rules RULES = {1024, 1024, 0, {1, 2, 3, 4, 5}};
 static const struct rrcache_parts PARTS = {1, {1, 2, 3, 4, 5}};
-static const struct rrcache_question QUESTION = {.moment = MOMENT,
-                                                 .rtype = 1,
+static const struct rrcache_question QUESTION = {.moment = FIRST,
+                                                 .rtype = A,
                                                  .rclass = RRCACHE_IN,
                                                  .purpose = RRCACHE_ANYTHING,
                                                  .mode = RRCACHE_NO_STALE};
 
-static uint64_t next(uint64_t *state)
-{
-    *state ^= *state << 13;
-    *state ^= *state >> 7;
-    *state ^= *state << 17;
-    return *state;
-}
-
 static struct entry *any_entry(uint64_t *state)
 {
-    return &entries[next(state) % NAMES];
+    return &entries[drawn_from(state) % NAMES];
 }
 
 static void expect(bool holds, const char *what)
@@ -110,7 +103,7 @@ static void look_at_all(const struct entry *entry)
            "there is no alias");
     expect(rrcache_sizes(&shelf, &sizes) == RRCACHE_DONE && sizes.keys <= NAMES,
            "the sizes are told");
-    expect(rrcache_next_expiry(&shelf, &moment) == RRCACHE_DONE && moment >= MOMENT,
+    expect(rrcache_next_expiry(&shelf, &moment) == RRCACHE_DONE && moment >= FIRST,
            "the next expiry is told");
 }
 
@@ -141,15 +134,8 @@ static void offer(struct entry *entry, uint32_t version)
                            (uint8_t)(version >> 16),
                            (uint8_t)(version >> 8),
                            (uint8_t)version};
-    struct rrcache_set set = {.owner = entry->octets,
-                              .owner_size = entry->size,
-                              .rtype = 1,
-                              .rclass = 1,
-                              .trust = RRCACHE_AUTHORITATIVE_ANSWER,
-                              .ttl = version == 0 ? 0 : 3600,
-                              .data = data,
-                              .data_size = DATUM,
-                              .moment = MOMENT};
+    const struct rrcache_set set =
+        plain_set(entry->octets, entry->size, A, version == 0 ? 0 : 3600, OF(data));
     uint32_t outcome;
     expect(rrcache_offer_set(&shelf, &set, &outcome) == RRCACHE_DONE, "an offer is taken");
     entry->version = version;

@@ -9,10 +9,10 @@
 #include <stdio.h>
 #include <time.h>
 
-#include "expect.h"
+#include "caches.h"
 
 /* Keys that expire in seconds of their own, and those that one step of a sweep removes. */
-enum { KEYS = 2048, STEP = 64, FIRST = 1000, LAST = FIRST + KEYS, A = 1 };
+enum { KEYS = 2048, STEP = 64, LAST = FIRST + KEYS };
 static const uint8_t NAME[] = "\3www\7example", DATUM[] = {0, 4, 192, 0, 2, 1};
 
 static struct rrcache *cache;
@@ -49,17 +49,7 @@ uint32_t __wrap_rrc_sweep_some(struct rrcache_shelf *shelf, const struct rrcache
 
 static void keep(uint16_t rtype, uint32_t ttl)
 {
-    const struct rrcache_set set = {.owner = NAME,
-                                    .owner_size = sizeof NAME,
-                                    .rtype = rtype,
-                                    .rclass = RRCACHE_IN,
-                                    .trust = RRCACHE_AUTHORITATIVE_ANSWER,
-                                    .ttl = ttl,
-                                    .data = DATUM,
-                                    .data_size = sizeof DATUM,
-                                    .moment = FIRST};
-    uint32_t outcome = 0;
-    NEED(rrcache_store_set(cache, &set, &outcome) == RRCACHE_DONE && outcome == RRCACHE_KEPT);
+    NEED(store_set(cache, plain_set(OF(NAME), rtype, ttl, OF(DATUM))) == RRCACHE_KEPT);
 }
 
 /* Looks up, or stores, until the sweep is over. */
@@ -67,12 +57,7 @@ static void *call(void *stores)
 {
     const bool *is_store = stores;
     static uint8_t space[RRCACHE_ANSWER_OCTETS];
-    const struct rrcache_request request = {.name = NAME,
-                                            .name_size = sizeof NAME,
-                                            .rtype = A,
-                                            .rclass = RRCACHE_IN,
-                                            .moment = FIRST,
-                                            .mode = RRCACHE_NO_STALE};
+    const struct rrcache_request request = plain_request(OF(NAME), A);
     while (!atomic_load(&is_over)) {
         struct rrcache_answer answer = {.buffer = space, .room = sizeof space};
         if (*is_store)
@@ -90,7 +75,7 @@ static void check(bool stores)
     const struct rrcache_config config = {.shelves = 1, .readers = 2, .seed = {1}};
     struct rrcache_swept swept = {0};
     pthread_t thread;
-    EXPECT(rrcache_open(&cache, &config) == RRCACHE_DONE);
+    cache = open_by(&config);
     keep(A, 2 * KEYS);
     for (unsigned i = 0; i < KEYS; i++)
         keep((uint16_t)(256 + i), 1 + i);

@@ -13,6 +13,7 @@
 #include <string.h>
 
 #include "expect.h"
+#include "structs.h"
 
 /* ---- What is offered and asked. */
 
@@ -22,21 +23,16 @@
         0, 1, 2, 3, 4, 5, 6, 7, 8, 9, 10, 11, 12, 13, 14, 15                                       \
     }
 #define PARTED(count) (&(const struct rrcache_parts){(count), SEED})
-/* Octets, with how many they are. */
-#define OF(octets) (octets), sizeof(octets)
 
 static const uint8_t NAME[] = "\3www\7example"; /* the last octet is the literal's own 0 */
 static const uint8_t UPPER[] = "\3WWW\7Example";
-static const uint8_t ZONE[] = "\7example";
 static const uint8_t OTHER[] = "\5other\7example";
 static const uint8_t THIRD[] = "\5third\7example";
 static const uint8_t NO_NAME[] = {3, 'w', 'w'};
 static const struct rrcache_limits LIMITS = {86400, 3600, 30};
-static const uint64_t FIRST = 1000;
 /* A moment that is too large, and the last one that is not. */
 static const uint64_t LATE = (UINT64_C(1) << 40) + 1, LAST = UINT64_C(1) << 40;
 
-enum { A = 1, CNAME = 5, SOA = 6, TXT = 16, OPT = 41, RRSIG = 46, NSEC = 47, ANY = 255 };
 enum { PARTS = 16, MAX_STALE = 3600 };
 
 /* clang-format off */
@@ -80,9 +76,6 @@ static const uint8_t ADDRESSES[] = {
 static const uint8_t ADDRESS[] = {0, 4, 192, 0, 2, 9};
 static const uint8_t TARGET[] = {0,   15,  5,   'o', 't', 'h', 'e', 'r', 7,
                                  'e', 'x', 'a', 'm', 'p', 'l', 'e', 0};
-/* The data of a SOA record: two roots and five numbers, the last of them 60. */
-static const uint8_t SOA_DATA[] = {0, 0, 0, 0, 0, 1, 0, 0, 0, 2, 0,
-                                   0, 0, 3, 0, 0, 0, 4, 0, 0, 0, 60};
 
 #define SWEEP(moment, most)        (&(const struct rrcache_sweep_at){(moment), 1, (most)})
 #define TRIM(moment, limit, most)  (&(const struct rrcache_trim_to){(moment), 8, (limit), (most)})
@@ -122,12 +115,9 @@ static uint64_t part_of(const uint8_t *name, size_t size)
 /* A question of a client that takes nothing stale. */
 static struct rrcache_question question(uint16_t rtype, uint64_t moment)
 {
-    struct rrcache_question question = {.moment = moment,
-                                        .line = 2,
-                                        .rtype = rtype,
-                                        .rclass = RRCACHE_IN,
-                                        .purpose = RRCACHE_QUESTION,
-                                        .mode = RRCACHE_NO_STALE};
+    struct rrcache_question question = plain_question(rtype);
+    question.moment = moment;
+    question.line = 2;
     return question;
 }
 
@@ -306,8 +296,11 @@ static uint64_t octets_of_keys(struct rrcache_shelf *shelf)
 
 static struct rrcache_response response_of(const uint8_t *octets, size_t size)
 {
-    struct rrcache_response response = {
-        .octets = octets, .size = size, .zone = ZONE, .zone_size = sizeof ZONE, .moment = FIRST};
+    struct rrcache_response response = {.octets = octets,
+                                        .size = size,
+                                        .zone = EXAMPLE,
+                                        .zone_size = sizeof EXAMPLE,
+                                        .moment = FIRST};
     response.limits = LIMITS;
     return response;
 }
@@ -322,47 +315,23 @@ static struct rrcache_query query_of(const uint8_t *name, size_t size)
 static struct rrcache_set set_of(const uint8_t *owner, size_t owner_size, uint16_t rtype,
                                  const uint8_t *data, size_t data_size)
 {
-    struct rrcache_set set = {.owner = owner,
-                              .owner_size = owner_size,
-                              .rtype = rtype,
-                              .rclass = RRCACHE_IN,
-                              .trust = RRCACHE_AUTHORITATIVE_ANSWER,
-                              .ttl = 60,
-                              .data = data,
-                              .data_size = data_size,
-                              .moment = FIRST,
-                              .line = 1};
+    struct rrcache_set set = plain_set(owner, owner_size, rtype, 60, data, data_size);
+    set.line = 1;
     return set;
 }
 
 static struct rrcache_negative negative_of(const uint8_t *name, size_t size, uint16_t rtype,
                                            enum rrcache_kind kind)
 {
-    struct rrcache_negative negative = {.name = name,
-                                        .name_size = size,
-                                        .rtype = rtype,
-                                        .rclass = RRCACHE_IN,
-                                        .kind = kind,
-                                        .trust = RRCACHE_AUTHORITY,
-                                        .ttl = 60,
-                                        .soa_owner = ZONE,
-                                        .soa_owner_size = sizeof ZONE,
-                                        .soa = SOA_DATA,
-                                        .soa_size = sizeof SOA_DATA,
-                                        .moment = FIRST,
-                                        .line = 1};
+    struct rrcache_negative negative = plain_negative(name, size, rtype, kind, 60);
+    negative.line = 1;
     return negative;
 }
 
 static struct rrcache_failure failure_of(const uint8_t *name, size_t size, uint16_t rtype)
 {
-    struct rrcache_failure failure = {.name = name,
-                                      .name_size = size,
-                                      .rtype = rtype,
-                                      .rclass = RRCACHE_IN,
-                                      .ttl = 30,
-                                      .moment = FIRST,
-                                      .line = 1};
+    struct rrcache_failure failure = plain_failure(name, size, rtype, 30);
+    failure.line = 1;
     return failure;
 }
 
@@ -635,10 +604,11 @@ static void test_offers(void)
     EXPECT(offer_denial(&shelf, OF(NAME), RRCACHE_NODATA, RRCACHE_AUTHORITY, 60) == RRCACHE_KEPT);
     reply = peeked(&shelf, OF(NAME), question(A, FIRST + 1));
     EXPECT(reply.told.kind == RRCACHE_NODATA && reply.told.left == 59);
-    EXPECT(reply.told.owner_size == sizeof ZONE && memcmp(reply.octets, ZONE, sizeof ZONE) == 0
+    EXPECT(reply.told.owner_size == sizeof EXAMPLE
+           && memcmp(reply.octets, EXAMPLE, sizeof EXAMPLE) == 0
            && reply.told.data_size == sizeof SOA_DATA + 2);
-    EXPECT(reply.octets[sizeof ZONE + 1] == sizeof SOA_DATA
-           && memcmp(reply.octets + sizeof ZONE + 2, SOA_DATA, sizeof SOA_DATA) == 0);
+    EXPECT(reply.octets[sizeof EXAMPLE + 1] == sizeof SOA_DATA
+           && memcmp(reply.octets + sizeof EXAMPLE + 2, SOA_DATA, sizeof SOA_DATA) == 0);
 
     EXPECT(offer_denial(&shelf, OF(OTHER), RRCACHE_NXDOMAIN, RRCACHE_AUTHORITY, 60)
            == RRCACHE_KEPT);
@@ -2476,8 +2446,8 @@ static void test_refused_responses(void)
     REFUSED(RRCACHE_BAD_LIMITS);
     response.limits = LIMITS;
     REFUSED(RRCACHE_BAD_NAME);
-    response.zone = ZONE;
-    response.zone_size = sizeof ZONE;
+    response.zone = EXAMPLE;
+    response.zone_size = sizeof EXAMPLE;
     REFUSED(RRCACHE_BAD_NAME);
     query.name = THIRD;
     query.name_size = sizeof THIRD;
@@ -2635,8 +2605,6 @@ static const uint8_t SERVER[] = {0,   15,  5,   't', 'h', 'i', 'r', 'd', 7,
 static const uint8_t SOA_ITEM[] = {0, 22, 0, 0, 0, 0, 0, 1, 0, 0, 0, 2,
                                    0, 0,  0, 3, 0, 0, 0, 4, 0, 0, 0, 60};
 
-enum { NS = 2 };
-
 static struct rrcache_parsed_set parsed_set(enum rrcache_section section, const uint8_t *owner,
                                             size_t owner_size, uint16_t rtype, const uint8_t *data,
                                             size_t data_size)
@@ -2693,7 +2661,7 @@ static void test_composed(void)
 {
     struct rrcache_parsed_set sets[] = {
         parsed_set(RRCACHE_ADDITIONAL_SECTION, OF(THIRD), A, OF(ADDRESS)),
-        parsed_set(RRCACHE_AUTHORITY_SECTION, OF(ZONE), NS, OF(SERVER)),
+        parsed_set(RRCACHE_AUTHORITY_SECTION, OF(EXAMPLE), NS, OF(SERVER)),
         parsed_set(RRCACHE_ANSWER_SECTION, OF(NAME), CNAME, OF(TARGET)),
         parsed_set(RRCACHE_ANSWER_SECTION, OF(OTHER), A, OF(TWO_ADDRESSES)),
     };
@@ -2853,7 +2821,7 @@ static void test_composed_is_read(void)
         parsed_set(RRCACHE_ADDITIONAL_SECTION, OF(THIRD), A, OF(ADDRESS)),
     };
     struct rrcache_parsed_set soa =
-        parsed_set(RRCACHE_AUTHORITY_SECTION, OF(ZONE), SOA, OF(SOA_ITEM));
+        parsed_set(RRCACHE_AUTHORITY_SECTION, OF(EXAMPLE), SOA, OF(SOA_ITEM));
     struct rrcache_parsed_set referral[] = {
         parsed_set(RRCACHE_AUTHORITY_SECTION, OF(NAME), NS, OF(SERVER)),
         parsed_set(RRCACHE_ADDITIONAL_SECTION, OF(THIRD), A, OF(ADDRESS)),
@@ -2868,7 +2836,7 @@ static void test_composed_is_read(void)
            && memcmp(told[1].octets + sizeof OTHER, OF(TWO_ADDRESSES)) == 0);
     denial.rcode = 3;
     EXPECT(offers_of(denial, told, 4) == 2);
-    EXPECT(is_offer(&told[0], OF(ZONE), SOA, RRCACHE_FRESH, RRCACHE_AUTHORITY)
+    EXPECT(is_offer(&told[0], OF(EXAMPLE), SOA, RRCACHE_FRESH, RRCACHE_AUTHORITY)
            && is_offer(&told[1], OF(NAME), 0, RRCACHE_NXDOMAIN, RRCACHE_AUTHORITATIVE_ANSWER)
            && told[1].told.left == 60);
     referring.aa = false;
@@ -3216,8 +3184,8 @@ static void test_refused_readings(void)
     REFUSED(RRCACHE_BAD_LIMITS);
     response.limits = LIMITS;
     REFUSED(RRCACHE_BAD_NAME);
-    response.zone = ZONE;
-    response.zone_size = sizeof ZONE;
+    response.zone = EXAMPLE;
+    response.zone_size = sizeof EXAMPLE;
     REFUSED(RRCACHE_BAD_MESSAGE);
 #undef REFUSED
     EXPECT(rrcache_free_offers(&offers) == RRCACHE_NO_OFFERS);
@@ -3711,8 +3679,8 @@ static void test_refused_messages(void)
     EXPECT(refuses(&shelf, response, RRCACHE_BAD_LIMITS));
     response.limits = LIMITS;
     EXPECT(refuses(&shelf, response, RRCACHE_BAD_NAME));
-    response.zone = ZONE;
-    response.zone_size = sizeof ZONE;
+    response.zone = EXAMPLE;
+    response.zone_size = sizeof EXAMPLE;
     EXPECT(refuses(&shelf, response, RRCACHE_BAD_MESSAGE));
     response.size = sizeof ANSWER;
     EXPECT(refuses(&shelf, response, RRCACHE_MOMENT_TOO_LARGE));
@@ -3745,8 +3713,8 @@ static void test_refused_parts(void)
     EXPECT(refuses_part(&shelf, response, &parts, part, RRCACHE_BAD_LIMITS));
     response.limits = LIMITS;
     EXPECT(refuses_part(&shelf, response, &parts, part, RRCACHE_BAD_NAME));
-    response.zone = ZONE;
-    response.zone_size = sizeof ZONE;
+    response.zone = EXAMPLE;
+    response.zone_size = sizeof EXAMPLE;
     EXPECT(refuses_part(&shelf, response, &parts, part, RRCACHE_BAD_MESSAGE));
     response.size = sizeof ALIAS;
     EXPECT(refuses_part(&shelf, response, &parts, part, RRCACHE_MOMENT_TOO_LARGE));
@@ -4143,7 +4111,7 @@ static void test_null_offers(struct rrcache_shelf *shelf)
     IS_NULL(negative_status(shelf, negative_of(NULL, 1, A, RRCACHE_NODATA)));
     negative.soa_owner = NULL;
     IS_NULL(negative_status(shelf, negative));
-    negative.soa_owner = ZONE;
+    negative.soa_owner = EXAMPLE;
     negative.soa = NULL;
     IS_NULL(negative_status(shelf, negative));
     IS_NULL(rrcache_offer_failure(NULL, &failure, &outcome));

@@ -4,32 +4,14 @@
    --wrap for nanosleep, with which a call waits. The last line is 'N passed, M failed'. */
 #include "places.h"
 
-#include <stdio.h>
-#include <time.h>
-
-#include "expect.h"
+#include "caches.h"
+#include "sleeps.h"
 
 enum { MOST_MILLISECONDS = 5000 };
 
 static struct rrcache *cache;
 static struct part *part;
-static atomic_uint sleeps; /* how often a call has begun to sleep */
 static atomic_bool is_in, is_over;
-
-int __real_nanosleep(const struct timespec *wanted, struct timespec *left);
-int __wrap_nanosleep(const struct timespec *wanted, struct timespec *left);
-
-int __wrap_nanosleep(const struct timespec *wanted, struct timespec *left)
-{
-    atomic_fetch_add(&sleeps, 1);
-    return __real_nanosleep(wanted, left);
-}
-
-static void wait_a_little(void)
-{
-    const struct timespec moment = {.tv_nsec = 1000000};
-    __real_nanosleep(&moment, NULL);
-}
 
 /* Takes a place, as a look-up does, and keeps it for a while. */
 static void *look_up(void *none)
@@ -49,7 +31,7 @@ static void check(uint64_t readers)
     const struct rrcache_config config = {.shelves = 1, .readers = readers, .seed = {1}};
     pthread_t thread;
     unsigned taken = 0;
-    EXPECT(rrcache_open(&cache, &config) == RRCACHE_DONE);
+    cache = open_by(&config);
     part = cache->part;
     for (uint64_t i = 0; i < readers; i++)
         EXPECT(try_place(part, place_at(cache, part, i)));

@@ -11,12 +11,14 @@
 #include <string.h>
 #include <time.h>
 
+#include "../c/structs.h"
+
 #define LIMIT (UINT64_C(16) << 20)
 
 /* How many keys a shelf may hold, so many that the limit is met before, and how many go by a trim.
    The first label of a name, with its length octet, and the longest name. */
-enum { CAPACITY = 65536, MOST = 8, LABEL = 9, LONGEST = 255, MOMENT = 1000 };
-enum { A = 1, TXT = 16, STRINGS = 64, RECORDS = 4096 };
+enum { CAPACITY = 65536, MOST = 8, LABEL = 9, LONGEST = 255 };
+enum { STRINGS = 64, RECORDS = 4096 };
 
 static const uint8_t ADDRESS[] = {0, 4, 192, 0, 2, 1};
 /* A TXT record of 16,384 octets, and as many octets of addresses. */
@@ -98,21 +100,9 @@ static void number_name(uint8_t *name, unsigned long number)
 /* Offers what a flood is of. */
 static void offer(struct rrcache_shelf *shelf, const struct flood *flood, const uint8_t *name)
 {
-    const struct rrcache_set set = {.owner = name,
-                                    .owner_size = flood->name_size,
-                                    .rtype = flood->rtype,
-                                    .rclass = RRCACHE_IN,
-                                    .trust = RRCACHE_AUTHORITATIVE_ANSWER,
-                                    .ttl = 86400,
-                                    .data = flood->data,
-                                    .data_size = flood->data_size,
-                                    .moment = MOMENT};
-    const struct rrcache_failure failure = {.name = name,
-                                            .name_size = flood->name_size,
-                                            .rtype = flood->rtype,
-                                            .rclass = RRCACHE_IN,
-                                            .ttl = 30,
-                                            .moment = MOMENT};
+    const struct rrcache_set set =
+        plain_set(name, flood->name_size, flood->rtype, 86400, flood->data, flood->data_size);
+    const struct rrcache_failure failure = plain_failure(name, flood->name_size, flood->rtype, 30);
     uint32_t outcome, status = flood->data == NULL
                                    ? rrcache_offer_failure(shelf, &failure, &outcome)
                                    : rrcache_offer_set(shelf, &set, &outcome);
@@ -122,7 +112,7 @@ static void offer(struct rrcache_shelf *shelf, const struct flood *flood, const 
 /* Trims until no more than the limit is left, and tells how many calls that took. */
 static unsigned trim(struct rrcache_shelf *shelf)
 {
-    static const struct rrcache_trim_to TO = {.moment = MOMENT, .limit = LIMIT, .most = MOST};
+    static const struct rrcache_trim_to TO = {.moment = FIRST, .limit = LIMIT, .most = MOST};
     struct rrcache_trimmed trimmed;
     unsigned calls = 0;
     do {
