@@ -9,11 +9,12 @@
 #include <stdio.h>
 #include <stdlib.h>
 #include <string.h>
-#include <time.h>
 
-#include "rrcache.h"
+#include "../../tests/c/drawn.h"
+#include "../../tests/c/structs.h"
+#include "runs.h"
 
-enum { SHELVES = 16, MOST_THREADS = 64, NAMES = 16384, MOMENT = 100, TTL = 3600 };
+enum { SHELVES = 16, MOST_THREADS = 64, NAMES = 16384, TTL = 3600 };
 
 struct shelf {
     pthread_mutex_t lock;
@@ -36,24 +37,10 @@ static uint8_t names[NAMES][16];
 static uint64_t parts[NAMES];
 static pthread_barrier_t start;
 
-static uint64_t nanoseconds(void)
-{
-    struct timespec now;
-    clock_gettime(CLOCK_MONOTONIC, &now);
-    return (uint64_t)now.tv_sec * 1000000000 + (uint64_t)now.tv_nsec;
-}
-
 static void fail(const char *what)
 {
     fprintf(stderr, "%s\n", what);
     exit(1);
-}
-
-static uint64_t draw(uint64_t *seed)
-{
-    *seed ^= *seed << 13;
-    *seed ^= *seed >> 7;
-    return *seed ^= *seed << 17;
 }
 
 static struct rrcache_name made_name(const uint8_t *octets)
@@ -67,35 +54,19 @@ static struct rrcache_name made_name(const uint8_t *octets)
 static void put(struct shelf *shelf, const uint8_t *name, uint64_t line)
 {
     static const uint8_t data[] = {0, 4, 192, 0, 2, 1, 0, 4, 192, 0, 2, 2};
-    const struct rrcache_set set = {
-        .owner = name,
-        .owner_size = sizeof names[0],
-        .rtype = 1,
-        .rclass = RRCACHE_IN,
-        .trust = RRCACHE_AUTHORITATIVE_ANSWER,
-        .ttl = TTL,
-        .data = data,
-        .data_size = sizeof data,
-        .moment = MOMENT,
-        .line = line,
-    };
+    struct rrcache_set set = plain_set(name, sizeof names[0], A, TTL, OF(data));
     uint32_t outcome;
+    set.line = line;
     if (rrcache_offer_set(&shelf->cache, &set, &outcome) != RRCACHE_DONE)
         fail("a put was refused");
 }
 
 static void ask(struct shelf *shelf, const struct rrcache_name *name, uint64_t line)
 {
-    const struct rrcache_question question = {
-        .moment = MOMENT,
-        .line = line,
-        .rtype = 1,
-        .rclass = RRCACHE_IN,
-        .purpose = RRCACHE_QUESTION,
-        .mode = RRCACHE_NO_STALE,
-    };
+    struct rrcache_question question = plain_question(A);
     struct rrcache_told told;
     uint8_t buffer[512];
+    question.line = line;
     if (rrcache_ask(&shelf->cache, name, &question, &told, buffer, sizeof buffer) != RRCACHE_DONE
         || told.kind != RRCACHE_FRESH)
         fail("an ask found nothing fresh");
@@ -162,7 +133,7 @@ static void *work(void *argument)
         worker->shelves = make_shelves();
     pthread_barrier_wait(&start);
     for (uint64_t call = 0; call < worker->calls; call++, worker->done++) {
-        uint64_t drawn = draw(&worker->seed);
+        uint64_t drawn = drawn_from(&worker->seed);
         if (worker->puts > (drawn >> 32 & 15))
             put_one(worker, drawn % NAMES, call);
         else
@@ -204,9 +175,9 @@ int main(int argc, char **argv)
             fail("a thread was refused");
     }
     pthread_barrier_wait(&start);
-    uint64_t began = nanoseconds();
+    uint64_t began = nanoseconds(CLOCK_MONOTONIC);
     pthread_barrier_wait(&start);
-    uint64_t took = nanoseconds() - began;
+    uint64_t took = nanoseconds(CLOCK_MONOTONIC) - began;
     for (unsigned i = 0; i < threads; i++) {
         pthread_join(workers[i].thread, NULL);
         done += workers[i].done;

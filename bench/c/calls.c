@@ -6,9 +6,9 @@
 #include <stdlib.h>
 #include <string.h>
 
-#include "rrcache.h"
+#include "../../tests/c/structs.h"
 
-enum { NAMES = 1000, NAME = 10, MOMENT = 1000, TTL = 600, A = 1, CNAME = 5, TXT = 16, ANY = 255 };
+enum { NAMES = 1000, NAME = 10, TTL = 600 };
 
 static struct rrcache *cache;
 static uint8_t buffer[RRCACHE_ANSWER_OCTETS];
@@ -43,12 +43,7 @@ static void make_names(void)
 static void look_up(enum kind kind, unsigned number, uint16_t rtype, uint32_t wanted)
 {
     struct rrcache_answer answer = {.buffer = buffer, .room = sizeof buffer};
-    const struct rrcache_request request = {.name = names[kind][number],
-                                            .name_size = NAME,
-                                            .rtype = rtype,
-                                            .rclass = RRCACHE_IN,
-                                            .moment = MOMENT,
-                                            .mode = RRCACHE_NO_STALE};
+    const struct rrcache_request request = plain_request(names[kind][number], NAME, rtype);
     check(rrcache_lookup(cache, &request, &answer) == RRCACHE_DONE && answer.kind == wanted);
 }
 
@@ -76,15 +71,7 @@ static void store_set(enum kind kind, unsigned number, uint16_t rtype, const uin
                       size_t size)
 {
     uint32_t outcome = 0;
-    const struct rrcache_set set = {.owner = names[kind][number],
-                                    .owner_size = NAME,
-                                    .rtype = rtype,
-                                    .rclass = RRCACHE_IN,
-                                    .trust = RRCACHE_AUTHORITATIVE_ANSWER,
-                                    .ttl = TTL,
-                                    .data = data,
-                                    .data_size = size,
-                                    .moment = MOMENT};
+    const struct rrcache_set set = plain_set(names[kind][number], NAME, rtype, TTL, data, size);
     check(rrcache_store_set(cache, &set, &outcome) == RRCACHE_DONE && outcome == RRCACHE_KEPT);
 }
 
@@ -103,20 +90,12 @@ static void store_alias(unsigned number)
 
 static void store_denial(unsigned number)
 {
-    static const uint8_t root[1] = {0}, soa[22] = {0};
+    static const uint8_t root[1] = {0};
     uint32_t outcome = 0;
-    const struct rrcache_negative negative = {.name = names[DENIAL][number],
-                                              .name_size = NAME,
-                                              .rtype = A,
-                                              .rclass = RRCACHE_IN,
-                                              .kind = RRCACHE_NODATA,
-                                              .trust = RRCACHE_AUTHORITY,
-                                              .ttl = TTL,
-                                              .soa_owner = root,
-                                              .soa_owner_size = sizeof root,
-                                              .soa = soa,
-                                              .soa_size = sizeof soa,
-                                              .moment = MOMENT};
+    struct rrcache_negative negative =
+        plain_negative(names[DENIAL][number], NAME, A, RRCACHE_NODATA, TTL);
+    negative.soa_owner = root; /* names here are of one label */
+    negative.soa_owner_size = sizeof root;
     check(rrcache_store_negative(cache, &negative, &outcome) == RRCACHE_DONE);
 }
 
@@ -152,7 +131,7 @@ static void store_response(enum kind kind, unsigned number)
                                               .size = messages[kind][number].size,
                                               .zone = root,
                                               .zone_size = sizeof root,
-                                              .moment = MOMENT};
+                                              .moment = FIRST};
     struct rrcache_report report;
     check(rrcache_store(cache, &query, &response, &report, NULL) == RRCACHE_DONE
           && report.counts.kept + report.counts.outranked == (kind == ALIAS ? 2 : 1));
@@ -170,11 +149,7 @@ static void store_chain(unsigned number)
 
 static void forget_name(unsigned number)
 {
-    const struct rrcache_request request = {.name = names[ADDRESS][number],
-                                            .name_size = NAME,
-                                            .rtype = ANY,
-                                            .rclass = RRCACHE_IN,
-                                            .moment = MOMENT};
+    const struct rrcache_request request = plain_request(names[ADDRESS][number], NAME, ANY);
     check(rrcache_forget(cache, &request) == RRCACHE_DONE);
 }
 

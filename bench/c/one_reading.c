@@ -6,9 +6,9 @@
    call took least. `bench/run one-reading` runs it. */
 #include <stdio.h>
 #include <stdlib.h>
-#include <time.h>
 
 #include "rrcache.h"
+#include "runs.h"
 
 enum { SHELVES = 16, KEYS = 65536 };
 
@@ -40,13 +40,6 @@ static void offer_whole(struct rrcache_shelf *shelves)
     check(rrcache_offer_message_unchecked(shelves, &response, 1, &counts));
 }
 
-static uint64_t nanoseconds(void)
-{
-    struct timespec now;
-    clock_gettime(CLOCK_THREAD_CPUTIME_ID, &now);
-    return (uint64_t)now.tv_sec * 1000000000 + (uint64_t)now.tv_nsec;
-}
-
 static void offer_share(struct rrcache_shelf *shelf, struct rrcache_offers *offers, uint64_t part)
 {
     const struct rrcache_share share = {.part = part, .line = 1};
@@ -72,9 +65,9 @@ static uint64_t took_longest(void)
     check(rrcache_read_message_unchecked(&offers, &response, &PARTS, &concerned));
     for (uint64_t part = 0; part < SHELVES; part++) {
         check(rrcache_make(&shelves[part], &RULES));
-        uint64_t begin = nanoseconds();
+        uint64_t begin = nanoseconds(CLOCK_THREAD_CPUTIME_ID);
         offer_share(&shelves[part], &offers, part);
-        uint64_t it = nanoseconds() - begin;
+        uint64_t it = nanoseconds(CLOCK_THREAD_CPUTIME_ID) - begin;
         longest = it > longest ? it : longest;
         check(rrcache_free(&shelves[part]));
     }
@@ -95,10 +88,10 @@ static uint64_t took(void (*offer)(struct rrcache_shelf *), unsigned long times)
     struct rrcache_shelf shelves[SHELVES] = {{0}};
     for (int i = 0; i < SHELVES; i++)
         check(rrcache_make(&shelves[i], &RULES));
-    uint64_t begin = nanoseconds();
+    uint64_t begin = nanoseconds(CLOCK_THREAD_CPUTIME_ID);
     for (unsigned long time = 0; time < times; time++)
         offer(shelves);
-    uint64_t end = nanoseconds();
+    uint64_t end = nanoseconds(CLOCK_THREAD_CPUTIME_ID);
     for (int i = 0; i < SHELVES; i++)
         check(rrcache_free(&shelves[i]));
     return (end - begin) / times;

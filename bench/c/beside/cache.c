@@ -32,14 +32,7 @@ void put(void *thread, const struct name *name, unsigned turn)
 
 bool ask(void *thread, const struct name *name)
 {
-    const struct rrcache_request request = {
-        .name = name->octets,
-        .name_size = name->size,
-        .rtype = 1,
-        .rclass = RRCACHE_IN,
-        .moment = MOMENT,
-        .mode = RRCACHE_NO_STALE,
-    };
+    const struct rrcache_request request = plain_request(name->octets, name->size, A);
     uint8_t buffer[512];
     struct rrcache_answer answer = {.buffer = buffer, .room = sizeof buffer};
     (void)thread;

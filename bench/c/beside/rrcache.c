@@ -92,13 +92,7 @@ void put(void *thread, const struct name *name, unsigned turn)
 
 bool ask(void *thread, const struct name *name)
 {
-    const struct rrcache_question question = {
-        .moment = MOMENT,
-        .rtype = 1,
-        .rclass = RRCACHE_IN,
-        .purpose = RRCACHE_QUESTION,
-        .mode = RRCACHE_NO_STALE,
-    };
+    const struct rrcache_question question = plain_question(A);
     struct rrcache_told told;
     uint8_t buffer[512];
     const struct rrcache_name made = made_name(name);

@@ -3,23 +3,13 @@
 #ifndef SETS_H
 #define SETS_H
 
-#include "rrcache.h"
+#include "../../../tests/c/structs.h"
 #include "work.h"
 
 static inline struct rrcache_set address_of(const struct name *name, const uint8_t *data,
                                             size_t size)
 {
-    return (struct rrcache_set){
-        .owner = name->octets,
-        .owner_size = name->size,
-        .rtype = 1,
-        .rclass = RRCACHE_IN,
-        .trust = RRCACHE_AUTHORITATIVE_ANSWER,
-        .ttl = TTL,
-        .data = data,
-        .data_size = size,
-        .moment = MOMENT,
-    };
+    return plain_set(name->octets, name->size, A, TTL, data, size);
 }
 
 #endif

@@ -12,7 +12,9 @@
 #include <stdio.h>
 #include <stdlib.h>
 #include <string.h>
-#include <time.h>
+
+#include "../../../tests/c/drawn.h"
+#include "../runs.h"
 
 enum { MOST_THREADS = 64 };
 
@@ -35,20 +37,6 @@ void fail(const char *what)
 {
     fprintf(stderr, "%s\n", what);
     exit(1);
-}
-
-static uint64_t nanoseconds(clockid_t clock)
-{
-    struct timespec now;
-    clock_gettime(clock, &now);
-    return (uint64_t)now.tv_sec * 1000000000 + (uint64_t)now.tv_nsec;
-}
-
-static uint64_t draw(uint64_t *seed)
-{
-    *seed ^= *seed << 13;
-    *seed ^= *seed >> 7;
-    return *seed ^= *seed << 17;
 }
 
 static void make_names(size_t count)
@@ -90,7 +78,7 @@ static size_t place_of(struct worker *worker, uint64_t turn)
         return 0;
     if (kind == EVICT)
         return (worker->number + turn * worker_count) % name_count;
-    uint64_t drawn = draw(&worker->seed);
+    uint64_t drawn = drawn_from(&worker->seed);
     return kind == ZIPF ? by_zipf[drawn % (1 << 16)] : drawn % name_count;
 }
 
