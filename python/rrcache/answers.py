@@ -18,6 +18,7 @@ from .names import to_text, to_wire
 from .parts import NAMES_MOST, OCTETS_AT, AnyName, Name
 from .refusals import Status
 from .replies import OfKind, StoredEntry
+from .reuse import reused
 
 # A buffer of this size has room for every answer except those that rrcache.h describes at
 # RRCACHE_ANSWER_OCTETS.
@@ -140,17 +141,7 @@ class Work:
         self.answer = structs.Answer(addressof(self.buffer), room)
 
 
-# The `Work` objects that no call uses now. A call takes an object from this list and puts it back,
-# as in asking.py. A call that fails may drop its object.
-_idle: list[Work] = []
-
-
-def taken() -> Work:
-    """Returns a `Work` object that no other call uses."""
-    try:
-        return _idle.pop()
-    except IndexError:
-        return Work()
+taken, put_back = reused(Work)
 
 
 def rrsets_in(work: Work, begin: int, size: int) -> tuple[AnswerSet, ...]:
@@ -181,7 +172,7 @@ def answer_of(work: Work) -> Answer:
     fields["is_endless"], fields["retry_from"] = is_endless, retry_from
     fields["end"] = end[:size]
     if room == ANSWER_OCTETS:
-        _idle.append(work)
+        put_back(work)
     return answer
 
 

@@ -13,6 +13,7 @@ from .library import library
 from .parts import Name
 from .refusals import Status, refusal
 from .replies import Reply, Stored, StoredEntry
+from .reuse import reused
 
 # A buffer of this size has room for a reply with data that `read_response` read (rrcache_shelf.h).
 ROOM = 28_551
@@ -32,18 +33,7 @@ class Work:
         self.buffer: Any = create_string_buffer(ROOM)
 
 
-# The `Work` objects that no call uses now. A call takes an object from this list and puts it back.
-# So two calls never use the same object, even if they run in different threads, or if one runs in a
-# signal handler that interrupts the other. Each list operation is atomic.
-_idle: list[Work] = []
-
-
-def taken() -> Work:
-    """Returns a `Work` object that no other call uses."""
-    try:
-        return _idle.pop()
-    except IndexError:
-        return Work()
+taken, put_back = reused(Work)
 
 
 def data_of(octets: bytes, at: int) -> tuple[bytes, ...]:
@@ -107,7 +97,7 @@ def told_offer(handle: structs.Offers, index: int) -> tuple[Name, Reply] | None:
             buffer = room_for(work.told)
         return Name(made), reply_of(work.told, buffer)
     finally:
-        _idle.append(work)
+        put_back(work)
 
 
 def answered(export: str, handle: structs.Shelf, name: Name, moment: int, line: int, rtype: int,
@@ -127,7 +117,7 @@ def answered(export: str, handle: structs.Shelf, name: Name, moment: int, line: 
     except struct.error as fault:
         raise structs.out_of_range(fault) from fault
     finally:
-        _idle.append(work)
+        put_back(work)
 
 
 def stored_under(handle: structs.Shelf, name: Name, rtype: int, rclass: int) -> Stored:
@@ -141,4 +131,4 @@ def stored_under(handle: structs.Shelf, name: Name, rtype: int, rclass: int) -> 
     except struct.error as fault:
         raise structs.out_of_range(fault) from fault
     finally:
-        _idle.append(work)
+        put_back(work)
