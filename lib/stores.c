@@ -13,9 +13,10 @@ enum { DATA_FOR_ONE = 34, MOST_DATA = 16384 };
 /* A buffer of this size has room for each RRset, negative answer or failure of a response that was
    read for a query (`rrcache_tell_offer`). */
 enum { OFFER_OCTETS = 28551 };
-/* The number of keys that one step of a sweep removes, and the number of types that one step of
-   forgetting checks. */
-enum { STEP_KEYS = 64, STEP_TYPES = 256 };
+/* The number of keys that one step of a sweep removes, the number of types that one step of
+   forgetting checks, and the number of offers that are stored one by one before other threads may
+   go first. */
+enum { STEP_KEYS = 64, STEP_TYPES = 256, STEP_OFFERS = 16 };
 enum { TYPES = 65536 };
 
 /* The key of stored data. An RRset and NODATA have the key of their name and type, a failure has
@@ -143,6 +144,8 @@ static enum rrcache_status store_shares(struct intake *intake)
 static enum rrcache_status store_one(struct intake *intake, uint64_t index, const struct key *key)
 {
     const struct rrcache_offer_pick pick = {.index = index};
+    if (index % STEP_OFFERS == STEP_OFFERS - 1)
+        give_way(&intake->cache->part[key->name->part]);
     const struct storing storing = begin_storing(intake->cache, key, intake->moment);
     uint32_t outcome = 0;
     if (key->rtype == RRTYPE_CNAME)
@@ -494,6 +497,7 @@ forget_types(struct rrcache *cache, const struct rrcache_name *name,
     uint32_t next = 1;
     while (status == RRCACHE_DONE && find_held(cache, name, request->rclass, &next)) {
         of_type.rtype = (uint16_t)next++;
+        give_way(&cache->part[name->part]);
         status = forget(cache, name, &of_type);
     }
     return status;

@@ -55,11 +55,11 @@ def test_waiting_look_ups(build, libraries, tmp_path, capsys):
 
 
 @pytest.mark.parametrize("build", ["archive", "sanitized"])
-def test_sweeps_give_way(build, libraries, tmp_path, capsys):
-    """sweep_tests.c makes each step of a sweep long. A step is a call of lib/, which is compiled
-    with the test."""
-    run(built("sweep_tests.c", build, libraries, tmp_path, f"-I{TOP / 'lib'}",
-              "-Wl,--wrap=rrc_sweep_some", *MORE["sanitized"], standard="c11"), build, capsys)
+def test_long_calls_give_way(build, libraries, tmp_path, capsys):
+    """turn_tests.c makes each step of a long call longer. A step is a call of lib/, which is
+    compiled with the test."""
+    run(built("turn_tests.c", build, libraries, tmp_path, f"-I{TOP / 'lib'}",
+              "-Wl,--wrap=rrc_sizes", *MORE["sanitized"], standard="c11"), build, capsys)
 
 
 @pytest.mark.parametrize("build", ["archive", "sanitized"])
