@@ -17,6 +17,9 @@ enum { OFFER_OCTETS = 28551 };
    forgetting checks, and the number of offers that are stored one by one before other threads may
    go first. */
 enum { STEP_KEYS = 64, STEP_TYPES = 256, STEP_OFFERS = 16 };
+/* The maximum number of offers that are stored in a shelf at once. They may evict as many keys, or
+   more. */
+enum { MOST_AT_ONCE = 256 };
 enum { TYPES = 65536 };
 
 /* The key of stored data. An RRset and NODATA have the key of their name and type, a failure has
@@ -244,9 +247,10 @@ enum rrcache_status rrcache_store(struct rrcache *cache, const struct rrcache_qu
     if (status != RRCACHE_DONE)
         return status;
     rrcache_tell_response(&intake.offers, &intake.report.name, &intake.report.summary);
-    bool is_plain = fits_surely(cache, &whole) && !may_have_alias(&whole, query->rclass);
-    intake.one_by_one = is_plain ? 0 : UINT64_MAX;
     intake.most_keys = most_offers(&whole);
+    bool is_plain = intake.most_keys <= MOST_AT_ONCE && fits_surely(cache, &whole)
+                    && !may_have_alias(&whole, query->rclass);
+    intake.one_by_one = is_plain ? 0 : UINT64_MAX;
     status = store_shares(&intake);
     if (status == RRCACHE_DONE && intake.one_by_one != 0)
         status = store_what_fits(&intake);

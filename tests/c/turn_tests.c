@@ -104,7 +104,8 @@ static size_t write_response(const struct rrcache_query *query, uint8_t *octets,
     return size;
 }
 
-/* The shelf may reach its maximum number of keys, so each RRset is stored by itself. */
+/* The shelf may reach its maximum number of keys, or the response may have too many RRsets to be
+   stored at once. So each RRset is stored by itself. */
 static void store(void)
 {
     static uint8_t octets[RRCACHE_MESSAGE_OCTETS];
@@ -183,6 +184,7 @@ int main(void)
     for (int stores = 0; stores < 2; stores++) {
         check(sweep, 1, 0, stores);
         check(store, OFFERS, TYPES + 1, stores);
+        check(store, OFFERS, 0, stores);
         check(forget, 1, 0, stores);
     }
     return told_status();
