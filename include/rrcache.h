@@ -364,8 +364,10 @@ RRCACHE_API bool rrcache_next(const struct rrcache_answer *answer, struct rrcach
    what is relevant, and therefore stored, are lower: fewer CNAME records are followed, and only
    smaller RRsets are relevant. In `answer`, rdata of types A and AAAA may have any length. If the
    type of the query is not kept, such as NAPTR, each record is returned as an RRset of its own, and
-   RRCACHE_NODATA means that an SOA record denies the type. `kind` is RRCACHE_MISS if only `report`
-   has the result, as for a negative response without an SOA record.
+   RRCACHE_NODATA means that an SOA record denies the type. If the query is of type NSEC or RRSIG,
+   and the response has such records of the name of the query, `answer` has these records, and no
+   CNAME record is followed, even if the kind of the response is RRCACHE_RESPONSE_ALIAS. `kind` is
+   RRCACHE_MISS if only `report` has the result, as for a negative response without an SOA record.
 
    If the response has only the beginning of a CNAME chain, its kind is RRCACHE_RESPONSE_ALIAS, and
    `kind` of the answer is RRCACHE_MISS. Keep the CNAME RRsets of this answer, and look up `end`

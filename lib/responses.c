@@ -4,7 +4,7 @@
 
 #include <stdlib.h>
 
-enum { SOA = 6, ANY = 255 };
+enum { SOA = 6, RRSIG = 46, NSEC = 47, ANY = 255 };
 enum { MOST_NAME = 255 };
 /* In the third octet of a message (RFC 1035 section 4.1.1). */
 enum { AA = 0x04, OPCODE = 0x78 };
@@ -15,6 +15,7 @@ struct said {
     struct rrcache_offers *offers;
     const struct rrcache_summary *summary;
     uint16_t rclass;
+    bool is_signed;   /* signatures are asked for, and it has some of the question's name */
     bool is_raised;   /* it was read as if AA were set */
     uint64_t *hashes; /* of the name of each offer, if there may be thousands of offers; otherwise
                          null */
@@ -80,18 +81,20 @@ static enum rrcache_status take_said(struct said *said, struct rrcache_answer *a
     return status;
 }
 
-/* Whether a response has a CNAME record for a name in place of data of a type: it has no data of
-   the type, or it has them before the CNAME record. In a shelf the later of the two would
-   govern. */
-static bool is_aliased(struct said *said, const struct rrcache_name *name, uint16_t rtype)
+/* Whether a response has a CNAME record for the name that its answer has reached, in place of data
+   of a type: it has no data of the type, or it has them before the CNAME record. In a shelf the
+   later of the two would govern. A name with a CNAME record has NSEC and RRSIG records of its own
+   (RFC 4035 section 2.5), so the CNAME record does not take their place. */
+static bool is_aliased(struct said *said, const struct rrcache_answer *answer, uint16_t rtype)
 {
     struct rrcache_told told;
     uint64_t of_type = 0, of_alias = 0;
-    find_said(said, name, RRTYPE_CNAME, &of_alias, &told, NULL, 0);
-    if (told.kind != RRCACHE_FRESH || rtype == RRTYPE_CNAME || rtype == ANY)
+    find_said(said, &answer->end, RRTYPE_CNAME, &of_alias, &told, NULL, 0);
+    if (told.kind != RRCACHE_FRESH || rtype == RRTYPE_CNAME || rtype == ANY
+        || (said->is_signed && answer->aliases == 0))
         return false;
-    find_said(said, name, rtype, &of_type, &told, NULL, 0);
-    return told.kind == RRCACHE_MISS || of_type < of_alias;
+    find_said(said, &answer->end, rtype, &of_type, &told, NULL, 0);
+    return told.kind == RRCACHE_MISS || (rtype != NSEC && of_type < of_alias);
 }
 
 /* Appends to the answer of a response what the response says about one name: what it has for the
@@ -101,7 +104,7 @@ static enum rrcache_status take_name(struct said *said, uint16_t rtype,
 {
     struct rrcache_told more = {0};
     uint64_t index = 0;
-    if (is_aliased(said, &answer->end, rtype))
+    if (is_aliased(said, answer, rtype))
         return take_said(said, answer, RRTYPE_CNAME, &index, told);
     enum rrcache_status status = take_said(said, answer, rtype, &index, told);
     more.kind = told->kind;
@@ -156,6 +159,16 @@ static enum rrcache_status answer_from(struct said *said, const struct rrcache_q
         answer->retry_from = told.retry_from;
     }
     return status;
+}
+
+/* Whether a query asks for signatures, and the response has some of the name of the query. */
+static bool has_signatures(const struct rrcache *cache, const struct rrcache_query *query,
+                           const struct rrcache_response *response)
+{
+    struct rrcache_name name = {0};
+    return query->rtype == RRSIG
+           && rrcache_make_name(&name, query->name, query->name_size, &cache->parts) == RRCACHE_DONE
+           && has_record(cache, query, response, RRCACHE_ANSWER_SECTION, RRSIG, &name);
 }
 
 /* An RRset has a record of 11 octets or more, and there may also be a negative answer. */
@@ -343,6 +356,7 @@ enum rrcache_status tell_answer(const struct rrcache *cache, struct rrcache_offe
     told.zone = memcpy(zone, response->zone, response->zone_size);
     struct said said = {
         .cache = cache, .offers = offers, .summary = summary, .rclass = asked.rclass};
+    said.is_signed = has_signatures(cache, &asked, &told);
     bool has_answer = summary->kind != RRCACHE_RESPONSE_REFERRAL
                       && summary->kind != RRCACHE_RESPONSE_FAILURE && !summary->tc;
     enum rrcache_status status = answer_from(&said, &asked, answer);

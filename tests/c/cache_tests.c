@@ -1824,6 +1824,39 @@ static void test_types_that_are_not_kept_behind_an_alias(void)
     rrcache_close(cache);
 }
 
+/* A name with a CNAME record has NSEC and RRSIG records of its own (RFC 4035 section 2.5). If a
+   response has them, it does not matter where the CNAME record leads. */
+static void test_records_beside_an_alias(void)
+{
+    static struct message message;
+    static const uint16_t TYPES[] = {NSEC, RRSIG};
+    static const char *const TARGETS[] = {"b.example", "a.other"};
+    struct rrcache *cache = open_small();
+    for (int i = 0; i < 4; i++) {
+        struct rrcache_answer answer;
+        uint16_t rtype = TYPES[i / 2];
+        begin(&message, AA, "a.example", rtype);
+        add(&message, RRCACHE_ANSWER_SECTION, "a.example", rtype, 60, OF(ADDRESS));
+        add_alias(&message, "a.example", TARGETS[i % 2], 60);
+        add(&message, RRCACHE_ANSWER_SECTION, "b.example", rtype, 60, OF(ADDRESS));
+        store(cache, &message, "a.example", rtype, &answer);
+        struct rrcache_rrset first = nth(&answer, 0);
+        EXPECT(answer.kind == RRCACHE_FRESH && answer.aliases == 0 && count_of(&answer) == 1
+               && is_rrset(&first, "a.example", rtype, 60, RRCACHE_FRESH)
+               && first.trust == RRCACHE_AUTHORITATIVE_ANSWER);
+        /* Those of another name do not count. */
+        begin(&message, AA, "a.example", rtype);
+        add_alias(&message, "a.example", "b.example", 60);
+        add(&message, RRCACHE_ANSWER_SECTION, "b.example", rtype, 60, OF(ADDRESS));
+        store(cache, &message, "a.example", rtype, &answer);
+        first = nth(&answer, 1);
+        EXPECT(answer.kind == RRCACHE_FRESH && answer.aliases == 1 && count_of(&answer) == 2
+               && is_rrset(&first, "b.example", rtype, 60, RRCACHE_FRESH));
+    }
+    EXPECT(kind_of(cache, "a.example", NSEC, FIRST) == RRCACHE_FRESH);
+    rrcache_close(cache);
+}
+
 /* The names of the query and of the zone may lie in the answer, as the zone does after its
    delegation was looked up, although such a response is read twice. */
 static void test_names_of_a_response_in_the_answer(void)
@@ -4063,6 +4096,7 @@ static void (*const TESTS[])(void) = {
     test_store_of_a_large_rrset,
     test_types_that_are_not_kept,
     test_types_that_are_not_kept_behind_an_alias,
+    test_records_beside_an_alias,
     test_names_of_a_response_in_the_answer,
     test_absence_of_types_that_are_not_kept,
     test_absence_by_another_section,
