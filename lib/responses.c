@@ -267,9 +267,18 @@ static void make_denial(struct rrcache_told *told, const uint8_t *data, uint32_t
     uint32_t minimum =
         (uint32_t)last[0] << 24 | (uint32_t)last[1] << 16 | (uint32_t)last[2] << 8 | last[3];
     uint32_t most = minimum < cap ? minimum : cap;
-    told->kind = RRCACHE_NODATA;
+    told->kind = told->entry.kind = RRCACHE_NODATA;
     told->data_size = size;
     told->left = told->left < most ? told->left : most;
+    told->entry.ttl = told->left;
+}
+
+/* The rank of a negative answer of a response (docs/RULES.md), which is not that of its SOA
+   record. */
+static uint32_t rank_of_denial(const struct said *said, const struct rrcache_answer *answer)
+{
+    return said->summary->aa && answer->aliases == 0 ? RRCACHE_AUTHORITATIVE_ANSWER
+                                                     : RRCACHE_NON_AUTHORITATIVE_ANSWER;
 }
 
 /* Whether an SOA record denies data of the name that was reached. The record must be in the
@@ -301,6 +310,7 @@ static enum rrcache_status put_absence(const struct said *said, const struct rrc
     if (status != RRCACHE_DONE)
         return status;
     make_denial(&told, buffer + told.owner_size, response->limits.negative_cap);
+    told.entry.trust = rank_of_denial(said, answer);
     end_rrset(answer, &told, said->rclass);
     answer->kind = RRCACHE_NODATA;
     return RRCACHE_DONE;

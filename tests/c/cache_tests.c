@@ -1908,6 +1908,31 @@ static void test_absence_of_types_that_are_not_kept(void)
     rrcache_close(cache);
 }
 
+/* A denial of such a type has the entry that a denial of another type has, with the same rank. */
+static void test_entry_of_absence(void)
+{
+    static struct message message;
+    static const unsigned FLAGS[] = {0, AA};
+    static const uint16_t RTYPES[] = {A, RRSIG};
+    struct rrcache *cache = open_small();
+    for (int i = 0; i < 8; i++) {
+        struct rrcache_answer answer;
+        unsigned flags = FLAGS[i % 2], has_alias = i / 2 % 2;
+        begin(&message, flags, "a.example", RTYPES[i / 4]);
+        if (has_alias)
+            add_alias(&message, "a.example", "b.example", 60);
+        add(&message, RRCACHE_AUTHORITY_SECTION, "example", SOA, 300, OF(SOA_DATA));
+        store(cache, &message, "a.example", RTYPES[i / 4], &answer);
+        struct rrcache_rrset last = nth(&answer, has_alias);
+        EXPECT(is_denial(&answer, RRCACHE_NODATA, 60) && last.entry.kind == RRCACHE_NODATA
+               && last.entry.ttl == 60 && last.entry.moment == FIRST
+               && last.trust
+                      == (flags == AA && !has_alias ? RRCACHE_AUTHORITATIVE_ANSWER
+                                                    : RRCACHE_NON_AUTHORITATIVE_ANSWER));
+    }
+    rrcache_close(cache);
+}
+
 /* An SOA record denies only from the authority section (RFC 2181 section 7.1), with AA or not. */
 static void test_absence_by_another_section(void)
 {
@@ -4099,6 +4124,7 @@ static void (*const TESTS[])(void) = {
     test_records_beside_an_alias,
     test_names_of_a_response_in_the_answer,
     test_absence_of_types_that_are_not_kept,
+    test_entry_of_absence,
     test_absence_by_another_section,
     test_absence_beside_what_is_left_out,
     test_types_that_are_not_kept_of_another_zone,
