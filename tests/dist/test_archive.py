@@ -44,6 +44,13 @@ def test_it_can_be_moved(unpacked, tmp_path):
     assert (prefix / "lib" / "pkgconfig" / told).resolve() == prefix / "include"
 
 
+@HAS_PKG_CONFIG
+def test_folder_with_a_space(unpacked, tmp_path):
+    prefix = tmp_path / "a folder"
+    said("cp", "-a", unpacked, prefix)
+    assert Place(prefix).first("C", "shared", tmp_path) == FIRST
+
+
 def alone(unpacked, command, *words, **more):
     """How a command of the unpacked folder ends, with no more in its environment than a path."""
     return subprocess.run([unpacked / "bin" / command, *words], capture_output=True, text=True,

@@ -2,6 +2,7 @@
 """A place that the library for C was installed to, and programs that are compiled with it as its
 users do: by what pkg-config prints, and by CMake."""
 import os
+import shlex
 import shutil
 import subprocess
 from pathlib import Path
@@ -71,7 +72,7 @@ class Place:
         return said("pkg-config", *words, "rrcache", **self.around)
 
     def flags(self, *words):
-        return self.told("--cflags", "--libs", *words).split()
+        return shlex.split(self.told("--cflags", "--libs", *words))
 
     def linked(self, linkage):
         """The words that link with the shared library or with the archive."""

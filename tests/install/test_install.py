@@ -111,6 +111,14 @@ def test_again(it, tmp_path):
     assert it.first("C", "shared", tmp_path) == FIRST
 
 
+@HAS_PKG_CONFIG
+@pytest.mark.parametrize("linkage", LINKAGES)
+def test_folder_with_a_space(linkage, tmp_path):
+    prefix = tmp_path / "a folder"
+    said(INSTALL, prefix)
+    assert Place(prefix).first("C", linkage, tmp_path) == FIRST
+
+
 def test_below_destdir(tmp_path):
     said(INSTALL, "--libdir", "/usr/lib64", "/usr", DESTDIR=str(tmp_path))
     pc = (tmp_path / "usr/lib64/pkgconfig/rrcache.pc").read_text()

@@ -32,9 +32,10 @@ def moment():
 
 
 def library_below(root, archive, shared) -> Tree:
-    """The library in a folder that can be moved."""
+    """The library in a folder that can be moved. The words that name this folder are not quoted,
+    since pkgconf has already escaped the spaces of `pcfiledir`."""
     pc = template("rrcache.pc", PREFIX="${pcfiledir}/../..", LIBDIR="${prefix}/lib",
-                  VERSION=VERSION)
+                  VERSION=VERSION).replace('"', "")
     return {**library(root, f"{root}/lib", archive, shared),
             f"{root}/lib/pkgconfig/rrcache.pc": text(pc)}
 
