@@ -54,8 +54,9 @@ def handed(kind: type[T], values: tuple[Any, ...]) -> T:
 
 
 def opened(config: structs.Config) -> Handle:
-    """Opens a cache, and returns its handle."""
+    """Opens a cache, and returns its handle. The handler of a signal may raise an exception as soon
+    as the library has opened the cache, so the handle can close the cache even then."""
     handle = Handle()
-    done(library().rrcache_open(byref(handle), config))
     handle.close = library().rrcache_close
+    done(library().rrcache_open(byref(handle), config))
     return handle

@@ -9,6 +9,7 @@ import subprocess
 import sys
 import threading
 import time
+from contextlib import suppress
 
 import pytest
 from dns.flags import AA, RA, TC
@@ -611,6 +612,26 @@ def test_signals_while_a_cache_is_written():
     finally:
         signal.setitimer(signal.ITIMER_REAL, 0)
         signal.signal(signal.SIGALRM, usual)
+
+
+def test_signals_while_a_cache_is_opened(monkeypatch):
+    """What a handler raises as soon as the library has opened a cache. The cache is closed."""
+    library, closed = rrcache.library.library(), []
+    opens, closes = library.rrcache_open, library.rrcache_close
+
+    def interrupted(*words):
+        opens(*words)
+        raise Alarm
+
+    def closing(handle):
+        closed.append(handle.value)
+        closes(handle)
+
+    monkeypatch.setattr(library, "rrcache_open", interrupted)
+    monkeypatch.setattr(library, "rrcache_close", closing)
+    with suppress(Alarm):
+        SharedCache(shelves=1)
+    assert len(closed) == 1
 
 
 # A cache is written when the interpreter ends: by a function of atexit, and by a finalizer.
