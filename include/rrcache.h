@@ -35,7 +35,10 @@
      result and its effect on the counters are the same as without a memo.
    - ThreadSanitizer cannot see the locks of the built library. To run a program under
      ThreadSanitizer, compile the files of lib/ with the same sanitizer, and link them before the
-     library.
+     shared library. The static library has the same functions, so with it the linker also needs
+     `-Wl,--allow-multiple-definition`. ThreadSanitizer may still falsely report races of `free`,
+     because it does not see how shelves count the references to data. The line `race_top:free$` in
+     a file of suppressions prevents these reports.
    - Eviction is LRU. But a look-up does not always move the entry that it finds to the front of the
      LRU order, because a move changes the shelf. In a shelf that is at least three quarters full,
      by octets or by keys, a look-up moves its entry if more than a quarter of the shelf's keys may
@@ -373,6 +376,11 @@ RRCACHE_API bool rrcache_next(const struct rrcache_answer *answer, struct rrcach
    `kind` of the answer is RRCACHE_MISS. Keep the CNAME RRsets of this answer, and look up `end`
    next. Do not look up the name of the query again: if a CNAME record of the chain has TTL 0, it is
    not stored, and the look-up is a miss again.
+
+   So look at `kind` of the answer first, and at the kind of the response only if the answer is a
+   miss. Records of a type that is not kept do not affect the kind of a response. If the query is of
+   such a type, the kind of a response that has or denies the data is usually
+   RRCACHE_RESPONSE_UNUSABLE or, if a CNAME record leads to the data, RRCACHE_RESPONSE_ALIAS.
 
    Also returns RRCACHE_BAD_LIMITS if a limit is out of range, and RRCACHE_BAD_NAME if the zone or
    the name of the query is not in wire form. After these errors, `report` is unmodified. Once the

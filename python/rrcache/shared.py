@@ -219,7 +219,9 @@ class SharedCache(Closing):
         client: it has the data that the server sent and, for type ANY, all RRsets of the name. The
         kind of this answer is MISS if only `summary` has the result, as for a negative response
         without an SOA record. The kind is also MISS if the data, or a CNAME record that leads to
-        them, are left out because their TTLs differ.
+        them, are left out because their TTLs differ. Unless `is_miss` of `answer` is set, `answer`
+        answers the question, even if the kind of `summary` is UNUSABLE or ALIAS, as for data of a
+        type that is not kept, such as NAPTR.
 
         The caller must check the address and port that a response came from. Raises `OtherQuery` if
         the octets do not answer the query: the caller then drops them and keeps waiting.

@@ -213,7 +213,10 @@ impl Cache {
     /// the response itself gives. This answer includes data with TTL 0, data that were left out of
     /// the cache, and data of lower rank than the cached data. So a waiting client gets the data
     /// that the server sent and, for type ANY, all RRsets of the name. The answer is a miss if only
-    /// the report has the result, as for a negative response without an SOA record.
+    /// the report has the result, as for a negative response without an SOA record. If the answer is
+    /// not a miss, it answers the question, even if the kind of the report is
+    /// [`Unusable`](crate::ResponseKind::Unusable) or [`Alias`](crate::ResponseKind::Alias), as for
+    /// data of a type that is not kept, such as NAPTR.
     ///
     /// Returns [`Small`](Error::Small) if the buffer of the answer is too small, which may happen
     /// for type ANY, for a type that is not kept, such as RRSIG, and for an RRset of more than
