@@ -32,7 +32,13 @@ class Parts(NamedTuple):
 @final
 class Name:
     """A name that `make_name` converted to lower case and hashed under a seed, for any number of
-    calls. Any number of threads may use the object at once."""
+    calls. Any number of threads may use the object at once. Two names are equal if their octets
+    are, even if their seeds differ.
+
+    >>> parts = Parts(1, seed=bytes(range(16)))
+    >>> make_name("WWW.example.", parts) == make_name("www.example.", parts)
+    True
+    """
 
     __slots__ = ("_made", "part")
 
@@ -48,6 +54,12 @@ class Name:
         b'\\x03www\\x07example\\x00'
         """
         return bytes(self._made)[OCTETS_AT:OCTETS_AT + self._made.size]
+
+    def __eq__(self, other: object) -> bool:
+        return isinstance(other, Name) and self.octets == other.octets
+
+    def __hash__(self) -> int:
+        return hash(self.octets)
 
     def __repr__(self) -> str:
         return f"Name({to_text(self.octets)!r})"

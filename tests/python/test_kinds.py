@@ -118,6 +118,16 @@ def test_kinds_that_lead_to_a_name(octets, kind, name):
         assert shelf.peek(summary.name, A, 100).kind == Kind.MISS
 
 
+def test_names_that_are_equal():
+    """A resolver that notes the names to which responses lead finds each of them again."""
+    made = [rrcache.make_name(name, rrcache.Parts(count, seed)) for name in (OUT, OUT.upper())
+            for count, seed in ((1, SEED), (16, SEED[::-1]))]
+    octets = to_a(*aliases([NAME, OUT]))
+    with read(octets) as one, read(octets) as other:
+        assert one.summary == other.summary and {one.summary.name, *made} == {made[0]}
+    assert made[0] not in (rrcache.make_name(NAME, PARTS), OUT, made[0].octets)
+
+
 @pytest.mark.parametrize("name, rtype, answer, rcode, kind", [
     (NAME, CNAME, aliases([NAME, OUT]), NOERROR, ResponseKind.ANSWER),
     (NAME, CNAME, [], NOERROR, ResponseKind.NODATA),
