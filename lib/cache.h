@@ -3,7 +3,9 @@
 #ifndef CACHE_H
 #define CACHE_H
 
+#ifndef _GNU_SOURCE /* a program that compiles these files may define it for all its files */
 #define _GNU_SOURCE /* for CLOCK_BOOTTIME, getentropy and adaptive mutexes */
+#endif
 #include <pthread.h>
 #include <stdatomic.h>
 #include <stddef.h>

@@ -6,11 +6,18 @@ import subprocess
 
 import pytest
 
-from tests.c.builds import BUILDS, TOP, built, run
+from tests.c.builds import BUILDS, FLAGS, TOP, built, run
 
 SOURCES = sorted((TOP / "lib").glob("*.c"))
 # What stands first is linked, and that is what the sanitizers see.
 MORE = {"sanitized": [*SOURCES, "-Wl,--allow-multiple-definition"]}
+
+
+@pytest.mark.parametrize("source", SOURCES, ids=lambda it: it.stem)
+def test_words_of_a_program(source):
+    """A program that compiles lib/ with its own words for the compiler, as under ThreadSanitizer,
+    may define _GNU_SOURCE."""
+    subprocess.run(["cc", "-std=c11", *FLAGS, "-D_GNU_SOURCE", "-fsyntax-only", source], check=True)
 
 
 @pytest.mark.parametrize("build", BUILDS)
