@@ -75,10 +75,33 @@ enum rrcache_kind look_up(const struct question *question, enum rrcache_mode mod
                                                                                CNAME record */
 }
 
+/* Clears the data of a name that does not exist, so they do not come back when the NXDOMAIN
+   expires, neither fresh nor stale. With AA set, the library has done so. But upstreams are
+   resolvers, which clear AA. As in the library, the types are those of addresses, of aliases and of
+   the question. */
+static void clear_denied(uint16_t type, const struct rrcache_name *name,
+                         const struct rrcache_parsed_set *soa)
+{
+    const uint16_t types[] = {A, AAAA, CNAME, type};
+    for (size_t i = 0; i < sizeof types / sizeof *types; i++) {
+        const struct rrcache_negative denied = {.name = name->octets,
+                                                .name_size = name->size,
+                                                .rtype = types[i],
+                                                .rclass = RRCACHE_IN,
+                                                .kind = RRCACHE_NODATA,
+                                                .trust = RRCACHE_NON_AUTHORITATIVE_ANSWER,
+                                                .soa_owner = soa->owner,
+                                                .soa_owner_size = soa->owner_size,
+                                                .soa = soa->data + LENGTH,
+                                                .soa_size = soa->data_size - LENGTH};
+        uint32_t outcome;
+        rrcache_store_negative(cache, &denied, &outcome); /* with TTL 0 it stores nothing */
+    }
+}
+
 /* The limits of the library apply: data live a week at most (RFC 8767 section 4). All queries go to
    the upstreams, so the lowest of different TTLs applies even if AA is clear (RFC 2181 section
-   5.2). An authoritative NXDOMAIN clears the data that it denies, so they do not come back when the
-   NXDOMAIN expires. If memory is refused, a second call may store a part of the response. */
+   5.2). If memory is refused, a second call may store a part of the response. */
 const struct reply *keep(const struct question *question, const uint8_t *message, size_t size,
                          struct reply replies[2])
 {
@@ -98,7 +121,9 @@ const struct reply *keep(const struct question *question, const uint8_t *message
     bool is_referral = report.summary.kind == RRCACHE_RESPONSE_REFERRAL;
     if (!has_no_room && (status != RRCACHE_DONE || is_referral))
         return NULL;
-    make_reply(replies, report.summary.rcode, &answer);
+    bool is_good = make_reply(replies, report.summary.rcode, &answer);
+    if (is_good && !has_no_room && answer.kind == RRCACHE_NXDOMAIN) /* the last set is the SOA */
+        clear_denied(question->type, &answer.end, &replies->sets[replies->count - 1]);
     if (has_no_room)
         refuse(replies, SERVFAIL);
     bool is_part = has_no_room || answer.kind == RRCACHE_MISS;

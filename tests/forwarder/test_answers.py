@@ -76,16 +76,18 @@ def test_negative(forwarder):
     assert it.counters()["negative"] == 3
 
 
-def test_what_was_denied_does_not_come_back(forwarder):
-    """An NXDOMAIN with AA set denies the name, for all types (RFC 2308 section 5). Once it is over
-    the upstream is asked, though the old address had more time left."""
+@pytest.mark.parametrize("flags", [AA | RA, RA])
+def test_what_was_denied_does_not_come_back(forwarder, flags):
+    """An NXDOMAIN denies the name, for all types (RFC 2308 section 5), also where it has AA clear,
+    as those of resolvers. Once it is over the upstream is asked, though the old address had more
+    time left."""
     soa = "example 1 SOA ns.example host.example 1 2 3 4 1"
-    it = forwarder(server := Server(told(f"{{}} 300 A {address(1)}", flags=AA | RA)))
+    it = forwarder(server := Server(told(f"{{}} 300 A {address(1)}", flags=flags)))
     assert data(it.ask("a1.example")) == [address(1)]
-    server.answer = told(authority=[soa], rcode=NXDOMAIN, flags=AA | RA)
+    server.answer = told(authority=[soa], rcode=NXDOMAIN, flags=flags)
     for rtype in ("TXT", "A"):
         assert it.ask("a1.example", rtype).rcode() == NXDOMAIN
-    server.answer = told(f"{{}} 300 A {address(2)}", flags=AA | RA)
+    server.answer = told(f"{{}} 300 A {address(2)}", flags=flags)
     time.sleep(1.1)
     it.counters()  # it sweeps
     assert data(it.ask("a1.example")) == [address(2)]

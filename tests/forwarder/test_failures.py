@@ -3,10 +3,11 @@
 import os
 import time
 
-from dns.rcode import NOERROR, REFUSED, SERVFAIL
+import pytest
+from dns.rcode import NOERROR, NXDOMAIN, REFUSED, SERVFAIL
 
-from tests.forwarder.harness import (BUILD, MOST_SECONDS, Server, address, data, plain, silent,
-                                     told, took, under)
+from tests.forwarder.harness import (BUILD, MOST_SECONDS, Server, address, aliases, data, plain,
+                                     silent, told, took, under)
 
 # In less than these seconds there is an answer that is not waited for: it is late after 1.8, and
 # the tries end after 3.8.
@@ -52,6 +53,24 @@ def test_stale_aliases(forwarder):
         reply = it.ask("c.example")
         assert (data(reply, "CNAME"), data(reply)) == (["b.example."], [address(1)])
         assert [it.ttl for it in reply.answer] == [30, 30]
+
+
+@pytest.mark.parametrize("names", [["c.example"], ["c.example", "b.example"]])
+def test_what_was_denied_is_not_stale(forwarder, names):
+    """A resolver says that a name is gone which had an address, or was an alias that leads to it,
+    and then it fails. The address is older than that, so no client gets it."""
+    soa = "example 1 SOA ns.example host.example 1 2 3 4 1"
+    lines = aliases(names, 1)
+    it = forwarder(server := Server(told(*lines, f"{names[-1]} 1 A {address(1)}")))
+    assert data(it.ask("c.example")) == [address(1)]
+    time.sleep(2.2)
+    server.answer = told(*lines, authority=[soa], rcode=NXDOMAIN)
+    assert it.ask("c.example").rcode() == NXDOMAIN
+    time.sleep(2.2)
+    server.answer = told(rcode=SERVFAIL)
+    for name in names * 2:
+        reply = it.ask(name)
+        assert (reply.rcode(), data(reply)) == (SERVFAIL, [])
 
 
 def test_failure_is_remembered(forwarder):
