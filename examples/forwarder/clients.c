@@ -10,6 +10,8 @@
 #include <unistd.h>
 
 enum { BACKLOG = 128, BURST = 64, SHUT_MS = 100, PORT_TRIES = 16 };
+/* SO_RCVBUF of a connection, which the system doubles: more than 64 usual queries. */
+enum { MOST_UNREAD = 1 << 14 };
 
 /* The rest of a reply that is not sent yet. Its memory comes from the client's share. */
 struct unsent {
@@ -53,7 +55,9 @@ static bool set_options(int sock, bool is_six, bool is_udp)
            && (!is_udp || set_option(sock, IPPROTO_IP, IP_MTU_DISCOVER, IP_PMTUDISC_OMIT));
 }
 
-/* Makes a socket. TCP gets its port immediately after a restart. */
+/* Makes a socket. TCP gets its port immediately after a restart. Connections inherit the bound on
+   what the system keeps of queries that are not read yet. Without it, that grows to megabytes for
+   each client that sends queries and reads no replies (tcp_rmem). */
 static int bound_socket(int kind, union address *address)
 {
     bool is_six = address->family == AF_INET6, is_udp = kind == SOCK_DGRAM;
@@ -62,6 +66,7 @@ static int bound_socket(int kind, union address *address)
     if (sock < 0
         || (set_options(sock, is_six, is_udp)
             && (is_udp || set_option(sock, SOL_SOCKET, SO_REUSEADDR, 1))
+            && (is_udp || set_option(sock, SOL_SOCKET, SO_RCVBUF, MOST_UNREAD))
             && bind(sock, &address->any, size) == 0 && getsockname(sock, &address->any, &size) == 0
             && (is_udp || listen(sock, BACKLOG) == 0)))
         return sock;

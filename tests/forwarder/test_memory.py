@@ -3,15 +3,17 @@
 which wait and of replies that nobody reads, of which each client has its share."""
 import contextlib
 import itertools
+import socket
 import struct
 import threading
+from pathlib import Path
 
 import pytest
 from dns.flags import TC
 from dns.rcode import NOERROR
 
-from tests.forwarder.harness import (MOST_SECONDS, Server, Stream, address, data, datagrams, many,
-                                     octets_of, plain, query, read, take, truncated, under)
+from tests.forwarder.harness import (MOST_SECONDS, Server, Stream, address, data, datagrams, framed,
+                                     many, octets_of, plain, query, read, take, truncated, under)
 from tests.forwarder.test_shares import ATTACKER, OTHERS, Stage, Upstream
 
 MEBIBYTE = 1 << 20
@@ -22,6 +24,8 @@ MOST_WAITING, OPTIONS = MEBIBYTE, ("-q", "-t", "2", "--octets", "4M")
 BASE = 4 * MEBIBYTE
 # Records of a set: as many of two octets as fit in a message.
 RECORDS, PRIVATE = 4600, 65280
+# The state of a connection in /proc/net/tcp.
+ESTABLISHED = "01"
 
 
 def of_short_records():
@@ -123,6 +127,29 @@ def test_message_for_which_the_share_of_one_client_has_no_room(forwarder):
         gate.set()
         reply = read(other.recv(4096))
     assert (reply.rcode(), reply.flags & TC) == (NOERROR, TC)
+
+
+def unread(port):
+    """The octets that the system keeps of what clients sent to a port over TCP."""
+    lines = [it.split() for it in Path("/proc/net/tcp").read_text().splitlines()[1:]]
+    return sum(int(it[4].split(":")[1], 16) for it in lines
+               if it[1].endswith(f":{port:04X}") and it[3] == ESTABLISHED)
+
+
+@under("forwarder")
+def test_queries_that_are_not_read(forwarder):
+    """One client sends as many queries as it can, and reads nothing. The system keeps 32 KiB of
+    them at most, even if it may keep more for each connection (tcp_rmem)."""
+    it = forwarder(Server(many), options=OPTIONS)
+    with it.stream() as other, it.stream() as stream:
+        assert other.gets_many(4000)
+        octets = framed(query("n4000.example")) * 1000
+        stream.settimeout(0.5)
+        with pytest.raises(socket.timeout):
+            while True:
+                stream.sendall(octets)
+        assert 4096 < unread(it.port) <= 32768
+        assert other.gets_many(4000)
 
 
 @under("forwarder")
