@@ -87,6 +87,9 @@ static void add_upstream(union address address)
         memset(address.six.sin6_addr.s6_addr + 10, 0xff, 2);
         memcpy(address.six.sin6_addr.s6_addr + 12, &four, sizeof four);
     }
+    for (unsigned i = 0; i < upstream_count; i++) /* its address tells which upstream answers */
+        if (is_same_address(&upstreams[i].address, &address))
+            return;
     upstreams[upstream_count].address = address;
     upstreams[upstream_count].bit = 1u << upstream_count;
     upstream_count++;

@@ -196,6 +196,18 @@ def test_upstreams_whose_ports_are_closed(forwarder, count):
     assert it.counted("sent", "failures") == [count, 1]
 
 
+@pytest.mark.parametrize("is_closed", [False, True], ids=["refuses", "closed"])
+def test_upstream_that_is_given_twice(forwarder, is_closed):
+    """It counts once, so what it refuses is not asked again, and nobody waits for another."""
+    server = Server(told(rcode=REFUSED))
+    it = forwarder(server, server)
+    if is_closed:
+        server.stop()
+    reply, seconds = took(it.ask, "a1.example")
+    assert reply.rcode() == SERVFAIL and seconds < 0.7
+    assert it.counted("sent", "failures") == [1, 1]
+
+
 def test_upstream_whose_port_is_closed(forwarder):
     """The other is asked at once, and again at the end of its try."""
     it = forwarder(one := Server(), Server(delay=1.3))
