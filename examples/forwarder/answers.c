@@ -121,7 +121,9 @@ const struct reply *keep(const struct question *question, const uint8_t *message
     bool is_referral = report.summary.kind == RRCACHE_RESPONSE_REFERRAL;
     if (!has_no_room && (status != RRCACHE_DONE || is_referral))
         return NULL;
-    bool is_good = make_reply(replies, report.summary.rcode, &answer);
+    bool has_data = answer.kind == RRCACHE_FRESH; /* then the cache answers NOERROR, even if the
+                                                     RCODE of the response is NXDOMAIN */
+    bool is_good = make_reply(replies, has_data ? NOERROR : report.summary.rcode, &answer);
     if (is_good && !has_no_room && answer.kind == RRCACHE_NXDOMAIN) /* the last set is the SOA */
         clear_denied(question->type, &answer.end, &replies->sets[replies->count - 1]);
     if (has_no_room)

@@ -188,6 +188,17 @@ def test_first_answer_is_that_of_the_cache(forwarder):
         assert (counts(reply), data(reply)) == ([2, 0, 0], [address(1), address(2)])
 
 
+@pytest.mark.parametrize("authority", [[], [SOA]])
+def test_data_of_a_name_that_is_denied_too(forwarder, authority):
+    """Data beside NXDOMAIN are data, from the first answer on."""
+    it = forwarder(server := Server(told(f"{{}} 60 A {address(1)}", authority=authority,
+                                         rcode=NXDOMAIN)))
+    for _ in range(2):
+        reply = it.ask("a1.example")
+        assert (reply.rcode(), data(reply)) == (NOERROR, [address(1)])
+    assert len(server.asked) == 1
+
+
 # ---- Aliases.
 
 def test_aliases(forwarder):
