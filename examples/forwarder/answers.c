@@ -99,6 +99,21 @@ static void clear_denied(uint16_t type, const struct rrcache_name *name,
     }
 }
 
+/* Adds what the cache has of the name at the end of a chain to a reply that has only the chain. The
+   name of the question itself may lead nowhere: an alias with TTL 0 is not cached. */
+static void add_rest(struct reply *reply, uint16_t type, const struct rrcache_name *end,
+                     struct reply *rest)
+{
+    struct question question = {.type = type, .size = end->size};
+    memcpy(question.name, end->octets, end->size);
+    if (!is_found(look_up(&question, RRCACHE_NO_STALE, rest))
+        || rest->count > MOST_SETS - reply->count)
+        return;
+    memcpy(reply->sets + reply->count, rest->sets, rest->count * sizeof *rest->sets);
+    reply->count += rest->count;
+    reply->rcode = rest->rcode;
+}
+
 /* The limits of the library apply: data live a week at most (RFC 8767 section 4). All queries go to
    the upstreams, so the lowest of different TTLs applies even if AA is clear (RFC 2181 section
    5.2). If memory is refused, a second call may store a part of the response. */
@@ -126,11 +141,13 @@ const struct reply *keep(const struct question *question, const uint8_t *message
     bool is_good = make_reply(replies, has_data ? NOERROR : report.summary.rcode, &answer);
     if (is_good && !has_no_room && answer.kind == RRCACHE_NXDOMAIN) /* the last set is the SOA */
         clear_denied(question->type, &answer.end, &replies->sets[replies->count - 1]);
-    if (has_no_room)
+    if (has_no_room) { /* a part of it may be stored */
         refuse(replies, SERVFAIL);
-    bool is_part = has_no_room || answer.kind == RRCACHE_MISS;
-    bool is_cached = is_part && is_found(look_up(question, RRCACHE_NO_STALE, replies + 1));
-    return replies + is_cached;
+        return replies + is_found(look_up(question, RRCACHE_NO_STALE, replies + 1));
+    }
+    if (is_good && answer.kind == RRCACHE_MISS)
+        add_rest(replies, question->type, &answer.end, replies + 1);
+    return replies;
 }
 
 void remember_failure(const struct question *question)

@@ -38,8 +38,10 @@ uint64_t hash_of(const uint8_t *name, size_t size);
 enum rrcache_kind look_up(const struct question *question, enum rrcache_mode mode,
                           struct reply *reply);
 
-/* Stores a response to a question. Returns one of two replies: what the response says, or what the
-   cache has if the response says only a part. Returns NULL if the response answers nothing. */
+/* Stores a response to a question. Returns one of two replies: what the response says, with what
+   the cache has of the rest if the response says only a part; or what the cache has if memory was
+   refused. The returned reply uses the buffers of both. Returns NULL if the response answers
+   nothing. */
 const struct reply *keep(const struct question *question, const uint8_t *message, size_t size,
                          struct reply replies[2]);
 

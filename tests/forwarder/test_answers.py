@@ -231,6 +231,20 @@ def test_aliases(forwarder):
     assert data(it.ask("gone.example", "CNAME"), "CNAME") == ["lost.example."]
 
 
+@pytest.mark.parametrize("target, rcode", [
+    ("a1.example", NOERROR), ("nothing.example", NOERROR), ("gone.example", NXDOMAIN)])
+@pytest.mark.parametrize("ttl", [0, 60])
+def test_alias_whose_rest_is_in_the_cache(forwarder, ttl, target, rcode):
+    """The upstream sends the alias alone, which may have a TTL of 0."""
+    it = forwarder(server := Server())
+    rest = it.ask(target)
+    server.answer = told(*aliases(["b.example", target], ttl))
+    reply = it.ask("b.example")
+    assert (reply.rcode(), data(reply, "CNAME")) == (rcode, [f"{target}."])
+    assert (data(reply), counts(reply)[1]) == (data(rest), counts(rest)[1])
+    assert server.times(target) == 1
+
+
 @pytest.mark.parametrize("rcode, lines", [
     (NXDOMAIN, []), (NOERROR, [f"w.example 60 A {address(1)}"])])
 def test_an_alias_newer_than_what_its_name_had(forwarder, rcode, lines):
