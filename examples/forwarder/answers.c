@@ -75,17 +75,18 @@ enum rrcache_kind look_up(const struct question *question, enum rrcache_mode mod
                                                                                CNAME record */
 }
 
-/* Clears the data of a name that does not exist, so they do not come back when the NXDOMAIN
-   expires, neither fresh nor stale. With AA set, the library has done so. But upstreams are
-   resolvers, which clear AA. As in the library, the types are those of addresses, of aliases and of
-   the question. */
-static void clear_denied(uint16_t type, const struct rrcache_name *name,
+/* Clears the data that a negative answer denies, so they do not come back when the answer expires,
+   neither fresh nor stale. Of an NXDOMAIN with AA set, the library has done so, for the types of
+   addresses, of aliases and of the question. But upstreams are resolvers, which clear AA. A NODATA
+   denies that the name is an alias, unless it is of type CNAME itself. */
+static void clear_denied(uint16_t type, const struct rrcache_answer *answer,
                          const struct rrcache_parsed_set *soa)
 {
-    const uint16_t types[] = {A, AAAA, CNAME, type};
-    for (size_t i = 0; i < sizeof types / sizeof *types; i++) {
-        const struct rrcache_negative denied = {.name = name->octets,
-                                                .name_size = name->size,
+    const uint16_t types[] = {CNAME, A, AAAA, type};
+    size_t count = answer->kind == RRCACHE_NXDOMAIN ? 4 : type != CNAME;
+    for (size_t i = 0; i < count; i++) {
+        const struct rrcache_negative denied = {.name = answer->end.octets,
+                                                .name_size = answer->end.size,
                                                 .rtype = types[i],
                                                 .rclass = RRCACHE_IN,
                                                 .kind = RRCACHE_NODATA,
@@ -139,13 +140,13 @@ const struct reply *keep(const struct question *question, const uint8_t *message
     bool has_data = answer.kind == RRCACHE_FRESH; /* then the cache answers NOERROR, even if the
                                                      RCODE of the response is NXDOMAIN */
     bool is_good = make_reply(replies, has_data ? NOERROR : report.summary.rcode, &answer);
-    if (is_good && !has_no_room && answer.kind == RRCACHE_NXDOMAIN) /* the last set is the SOA */
-        clear_denied(question->type, &answer.end, &replies->sets[replies->count - 1]);
     if (has_no_room) { /* a part of it may be stored */
         refuse(replies, SERVFAIL);
         return replies + is_found(look_up(question, RRCACHE_NO_STALE, replies + 1));
     }
-    if (is_good && answer.kind == RRCACHE_MISS)
+    if (is_good && (answer.kind == RRCACHE_NXDOMAIN || answer.kind == RRCACHE_NODATA))
+        clear_denied(question->type, &answer, &replies->sets[replies->count - 1]); /* the SOA */
+    else if (is_good && answer.kind == RRCACHE_MISS)
         add_rest(replies, question->type, &answer.end, replies + 1);
     return replies;
 }

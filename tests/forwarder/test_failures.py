@@ -4,6 +4,7 @@ import os
 import time
 
 import pytest
+from dns.flags import AA, RA
 from dns.rcode import NOERROR, NXDOMAIN, REFUSED, SERVFAIL
 
 from tests.forwarder.harness import (BUILD, MOST_SECONDS, Server, address, aliases, data, plain,
@@ -71,6 +72,28 @@ def test_what_was_denied_is_not_stale(forwarder, names):
     for name in names * 2:
         reply = it.ask(name)
         assert (reply.rcode(), data(reply)) == (SERVFAIL, [])
+
+
+@pytest.mark.parametrize("flags", [AA | RA, RA])
+def test_alias_that_was_denied_is_not_stale(forwarder, flags):
+    """A name was an alias, and then has no address, so it is no alias. That it has no CNAME record
+    is kept, if it was asked for."""
+    soa = "example 1 SOA ns.example host.example 1 2 3 4 1"
+    lines = [*aliases(["c.example", "b.example"], 1), f"b.example 1 A {address(1)}"]
+    it = forwarder(server := Server(told(*lines, flags=flags)))
+    assert data(it.ask("c.example")) == [address(1)]
+    time.sleep(2.2)
+    server.answer = told(authority=[soa], flags=flags)
+    assert it.ask("c.example").rcode() == NOERROR
+    time.sleep(2.2)
+    server.answer = told(rcode=SERVFAIL)
+    for _ in range(2):
+        reply = it.ask("c.example")
+        assert (reply.rcode(), reply.answer) == (SERVFAIL, [])
+    server.answer = plain()
+    for _ in range(2):
+        assert it.ask("nothing.example", "CNAME").rcode() == NOERROR
+    assert server.times("nothing.example", "CNAME") == 1
 
 
 def test_failure_is_remembered(forwarder):
