@@ -143,7 +143,7 @@ enum rcode read_query(const uint8_t *octets, size_t size, struct query *query)
     *query = (struct query){.id = {octets[0], octets[1]}, .flags = {octets[2], octets[3]}};
     query->payload = PLAIN_PAYLOAD;
     bool is_other = octets[2] & OPCODE;
-    bool has_one = memcmp(octets + 4, "\0\1\0\0\0\0", 6) == 0; /* question, and no answer */
+    bool has_one = memcmp(octets + 4, "\0\1\0\0", 4) == 0; /* question, and no answer */
     bool is_one = !is_other && has_one;
     size_t end = is_one ? read_question(octets, size, &query->question)
                         : skip_questions(octets, size, word_at(octets + 4));
@@ -156,7 +156,8 @@ enum rcode read_query(const uint8_t *octets, size_t size, struct query *query)
         query->payload = edns.payload < PAYLOAD ? edns.payload : PAYLOAD;
     if (is_other)
         return NOTIMP;
-    if (!is_one || end != size || edns.is_broken)
+    bool is_odd = word_at(octets + 8) != 0 && question->type != IXFR; /* RFC 1995 section 3 */
+    if (!is_one || is_odd || end != size || edns.is_broken)
         return FORMERR;
     if (edns.ttl >> 16 & 255)
         return BADVERS;

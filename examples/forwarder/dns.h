@@ -20,7 +20,7 @@ enum { QUERY = HEADER + NAME + 4 + OPT_RECORD };
 enum { PLAIN_PAYLOAD = 512, PAYLOAD = 1232 };
 
 enum rcode { NOERROR, FORMERR, SERVFAIL, NXDOMAIN, NOTIMP, REFUSED, BADVERS = 16 };
-enum type { A = 1, CNAME = 5, TXT = 16, AAAA = 28, OPT = 41, ANY = 255 };
+enum type { A = 1, CNAME = 5, TXT = 16, AAAA = 28, OPT = 41, IXFR = 251, ANY = 255 };
 
 struct question {
     uint8_t name[NAME]; /* as it was spelled */

@@ -26,9 +26,9 @@ BEFORE_OPT, OPT = octets_of(EDNS)[:-11], octets_of(EDNS)[-11:]
 SIGNATURE = b"\3key\7example\0" + struct.pack(">HHIH", 250, 255, 0, 9) + b"signature"
 
 
-def with_section(section, records):
+def with_section(section, records, rtype="A"):
     """A query one of whose sections is this."""
-    it = query("a1.example")
+    it = query("a1.example", rtype)
     it.sections[section] = records
     return it
 
@@ -55,6 +55,7 @@ NO_QUERIES = {
     "257 octets of name": (asked_for((b"\x3f" + b"a" * 63) * 4 + b"\0"), FORMERR),
     "class CH": (query("a1.example", rdclass="CH"), REFUSED),
     "type AXFR": (query("a1.example", "AXFR"), NOTIMP),
+    "type IXFR": (with_section(2, [record(SOA)], "IXFR"), NOTIMP),
     "type OPT": (query("a1.example", "OPT"), NOTIMP),
     "RD clear": (query("a1.example", flags=0), REFUSED),
 }
