@@ -70,9 +70,9 @@
      RRsets, even if `octets` is larger.
    - The configuration of an open cache cannot be changed. Memory that the library frees goes back
      to malloc, and malloc decides whether to return that memory to the system.
-   - An RRset that would use more memory than the share of its shelf is not stored. In tests, the
-     largest RRset of a response used 242,208 octets. So with 64 shelves, set `octets` to at least
-     16 MiB, and use fewer shelves if `octets` is smaller.
+   - An RRset that would use more memory than its shelf's share of `octets` is not stored. In tests,
+     the largest RRset of a response used 242,208 octets. So with 64 shelves, set `octets` to at
+     least 16 MiB, and use fewer shelves if `octets` is smaller.
    - Look-ups allocate memory only while a history is being recorded. `rrcache_next`,
      `rrcache_stats`, `rrcache_stats_of` and `rrcache_stats_text` never allocate. If malloc fails in
      any other call, except during an eviction, the call returns RRCACHE_MEMORY. The contents of the

@@ -801,7 +801,7 @@ enum { RRCACHE_MESSAGE_OCTETS = 65535 };
 /* ---- The functions of the library that the inline functions call, and the structs that the inline
    functions pass to them. The size of an array follows the pointer to the array. The read-only
    functions take a copy of a handle, `look`. They write to this copy while they run, so no other
-   call may use the copy. */
+   call may use the copy at the same time. */
 
 struct rrc_response {
     uint64_t moment;
