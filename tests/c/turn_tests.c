@@ -11,15 +11,14 @@
 #include <stdio.h>
 #include <time.h>
 
-#include "expect.h"
+#include "caches.h"
 
 /* Keys that expire in seconds of their own, and those that one step of a sweep removes. */
 enum { SWEPT = 2048, STEP = 64 };
 /* Types that a response has, and that are forgotten; and the number of offers that are stored one
    by one before others may go first. */
 enum { TYPES = 320, OFFERS = 16 };
-enum { FIRST = 1000, LAST = FIRST + SWEPT, LONG = 2 * SWEPT };
-enum { A = 1, ANY = 255, FIRST_TYPE = 256 };
+enum { LAST = FIRST + SWEPT, LONG = 2 * SWEPT, FIRST_TYPE = 256 };
 static const uint8_t NAME[] = "\3www\7example", OTHER[] = "\5other\7example";
 static const uint8_t DATUM[] = {0, 4, 192, 0, 2, 1};
 
@@ -59,17 +58,7 @@ uint32_t __wrap_rrc_sizes(struct rrcache_shelf *shelf, struct rrcache_usage *siz
 
 static void keep(const uint8_t *name, size_t size, uint16_t rtype, uint32_t ttl)
 {
-    const struct rrcache_set set = {.owner = name,
-                                    .owner_size = size,
-                                    .rtype = rtype,
-                                    .rclass = RRCACHE_IN,
-                                    .trust = RRCACHE_AUTHORITATIVE_ANSWER,
-                                    .ttl = ttl,
-                                    .data = DATUM,
-                                    .data_size = sizeof DATUM,
-                                    .moment = FIRST};
-    uint32_t outcome = 0;
-    NEED(rrcache_store_set(cache, &set, &outcome) == RRCACHE_DONE && outcome == RRCACHE_KEPT);
+    NEED(store_set(cache, plain_set(name, size, rtype, ttl, OF(DATUM))) == RRCACHE_KEPT);
 }
 
 /* ---- The calls that have steps. */
@@ -78,7 +67,7 @@ static void sweep(void)
 {
     struct rrcache_swept swept = {0};
     for (unsigned i = 0; i < SWEPT; i++)
-        keep(NAME, sizeof NAME, (uint16_t)(FIRST_TYPE + i), 1 + i);
+        keep(OF(NAME), (uint16_t)(FIRST_TYPE + i), 1 + i);
     is_watched = true;
     EXPECT(rrcache_sweep_all(cache, LAST, UINT64_MAX, &swept) == RRCACHE_DONE
            && swept.removed == SWEPT && swept.is_done == 1);
@@ -125,10 +114,9 @@ static void store(void)
 
 static void forget(void)
 {
-    const struct rrcache_request request = {
-        .name = NAME, .name_size = sizeof NAME, .rtype = ANY, .rclass = RRCACHE_IN, .moment = LAST};
+    const struct rrcache_request request = plain_request(OF(NAME), ANY);
     for (unsigned i = 0; i < TYPES; i++)
-        keep(NAME, sizeof NAME, (uint16_t)(FIRST_TYPE + i), LONG);
+        keep(OF(NAME), (uint16_t)(FIRST_TYPE + i), LONG);
     is_watched = true;
     EXPECT(rrcache_forget(cache, &request) == RRCACHE_DONE);
     EXPECT(steps >= TYPES);
@@ -141,16 +129,11 @@ static void *call(void *stores)
 {
     const bool *is_store = stores;
     static uint8_t space[RRCACHE_ANSWER_OCTETS];
-    const struct rrcache_request request = {.name = OTHER,
-                                            .name_size = sizeof OTHER,
-                                            .rtype = A,
-                                            .rclass = RRCACHE_IN,
-                                            .moment = FIRST,
-                                            .mode = RRCACHE_NO_STALE};
+    const struct rrcache_request request = plain_request(OF(OTHER), A);
     while (!atomic_load(&is_over)) {
         struct rrcache_answer answer = {.buffer = space, .room = sizeof space};
         if (*is_store)
-            keep(OTHER, sizeof OTHER, A, LONG);
+            keep(OF(OTHER), A, LONG);
         else
             NEED(rrcache_lookup(cache, &request, &answer) == RRCACHE_DONE
                  && answer.kind == RRCACHE_FRESH);
@@ -164,8 +147,8 @@ static void check(void (*has_steps)(void), unsigned each, uint64_t most_keys, bo
     const struct rrcache_config config = {
         .shelves = 1, .readers = 2, .keys = most_keys, .seed = {1}};
     pthread_t thread;
-    EXPECT(rrcache_open(&cache, &config) == RRCACHE_DONE);
-    keep(OTHER, sizeof OTHER, A, LONG);
+    cache = open_by(&config);
+    keep(OF(OTHER), A, LONG);
     steps = turns = 0;
     every = each;
     atomic_store(&is_over, false);
