@@ -79,10 +79,10 @@
    - Every function returns a status, except `rrcache_version`, `rrcache_status_text` and helpers
      such as `rrcache_room`. RRCACHE_DONE is 0, and every other status is an error. No error ends
      the process.
-   - For the functions of this header, the valid values of a purpose, mode, class, trust, kind,
-     section, seed and limit do not include 0. So a call that uses such a field returns an error if
-     the caller forgot to set the field. For the functions of rrcache.h, a seed or a limit of 0
-     means the default.
+   - For the functions of this header, 0 is not a valid value of a field for a purpose, mode, class,
+     trust, kind, section, seed or limit. So a call that uses such a field returns an error if the
+     caller forgot to set the field. For the functions of rrcache.h, a seed or a limit of 0 means
+     the default.
    - If a call fails, the history of the shelf and the replies that the shelf gives are unchanged.
      If the shelf records, the call may still have closed a full chapter, which changes neither the
      history nor the replies. Five functions are exceptions, because they may have done part of
@@ -127,7 +127,7 @@
      `rrcache_compose_response`. This function writes them as a message, which the resolver then
      reads like any other message.
    - A function whose name ends in `_unchecked` takes from a message all data that are in bailiwick:
-     data of names at or below the zone whose servers were asked. Such a function does not compare
+     data of names at or below the zone whose servers were queried. Such a function does not compare
      the message with a query. The caller must check the addresses and ports, the identifier and the
      question of the message before it calls such a function.
    - A truncated message (TC, the bit 0x02 of the third octet, is set) offers nothing (RFC 2181
@@ -146,7 +146,7 @@
      with a name. It is an error to ask for a class that is not kept, or for type 0. A question for
      any other type that is not kept is allowed: the reply is a miss, or RRCACHE_NXDOMAIN if an
      unexpired NXDOMAIN of the name is cached. For type ANY, such an NXDOMAIN gives the reply even
-     if unexpired RRsets of the name with a higher rank are cached too.
+     if unexpired RRsets of higher rank are cached for the name.
    - Even if a message that answers its question has just been offered, the next ask for this
      question may be a miss. Apart from evictions, there are five possible causes: the TTL is 0; the
      type is not kept; the records of an RRset have different TTLs, AA is clear and `lowest_ttl` is
@@ -158,30 +158,32 @@
    - If nothing is stored from a message that answers its question, a failure that is cached for the
      question is still returned as RRCACHE_FAILED until the failure expires. `rrcache_offer_failure`
      with `ttl` 0 ends the failure.
-   - A message from which nothing is stored does not change a cached RRset either, unless the
-     message offers the RRset with TTL 0. The unchanged RRset may still be returned, even stale. But
-     RFC 8767 section 4 counts the RRset as refreshed if the message is an authoritative response
-     (AA set) with RCODE NOERROR or NXDOMAIN. After such a message, the resolver clears the RRset:
-     it calls `rrcache_offer_set` with `ttl` 0.
+   - A message from which nothing is stored does not change a cached RRset either, unless an offer
+     of the message has TTL 0 and clears the RRset. The unchanged RRset may still be returned, even
+     stale. But RFC 8767 section 4 counts the RRset as refreshed if the message is an authoritative
+     response (AA set) with RCODE NOERROR or NXDOMAIN. After such a message, the resolver clears the
+     RRset: it calls `rrcache_offer_set` with `ttl` 0.
    - A response with an RCODE other than NOERROR and NXDOMAIN offers a failure of its question, even
      if the RCODE is FORMERR, NOTIMP or REFUSED. Once the failure is stored, the reply to the
      question is RRCACHE_FAILED if no cached data may answer, until the failure expires or a later
      entry for the question is stored. So offer such a response only when the resolver has no other
-     server left to ask, and no retry without EDNS left to make.
+     server left to query, and no retry without EDNS left to make.
    - A message may have more new keys than the shelf has room for. The later keys of the message
      then evict some of its earlier keys.
 
    Timestamps
    - Timestamps (`moment`) are numbers of seconds, at most 2^40. The caller supplies them, because
      the library reads no clock. The timestamp of a call may be lower than that of a previous call.
-   - If the timestamp of a call is lower than that of an entry, the age of the entry is 0, and
-     `left` is the whole TTL of the entry, never more.
-   - If the caller's clock is set back, all cached data live longer by the same amount. Data that
-     had expired may answer again, and may prevent data of lower rank from being stored, unless the
-     expired data were already replaced, cleared, evicted or swept. If the clock is set forward,
-     data expire early, and a sweep then removes entries that are fully expired according to that
-     clock. Use a clock that cannot be set, and that keeps running while the machine is suspended.
-     On Linux, CLOCK_BOOTTIME is such a clock, but CLOCK_MONOTONIC stops during suspension.
+   - The age of an entry is the timestamp of the call minus the timestamp of the entry. If the
+     timestamp of the call is lower, the age is 0, and `left` is the whole TTL of the entry, never
+     more. The field `age` of `struct rrcache_entry` is another number: it counts uses.
+   - If the caller's clock is set back by some seconds, all cached data live that many seconds
+     longer. Data that had expired may answer again, and may prevent data of lower rank from being
+     stored, unless the expired data were already replaced, cleared, evicted or swept. If the clock
+     is set forward, data expire early, and a sweep then removes entries that are fully expired
+     according to that clock. Use a clock that cannot be set, and that keeps running while the
+     machine is suspended. On Linux, CLOCK_BOOTTIME is such a clock, but CLOCK_MONOTONIC stops
+     during suspension.
    - The order of the calls, not the order of their timestamps, decides which of two events is
      later.
    - An entry has expired when its age is at least its TTL. An entry is *fully expired* when it can
@@ -207,11 +209,11 @@
    - The time to close a chapter grows with the number of keys that the shelf holds, and with the
      number of keys that it held when the chapter began. The call that closes the chapter writes 16
      octets for each key, and copies an entry of 56 octets for each key that has been used since the
-     chapter began. At the end of the first chapter, the call copies the entries of all keys. The
-     call also copies the entries of all keys if, during the chapter, there were more uses and
-     removals of keys than there were keys when the chapter began. Names, data and events are not
-     copied. A good value of `chapter`, the maximum number of events in a chapter, is about the
-     number of keys in the shelf.
+     chapter began. Instead, the call copies the entries of all keys if, during the chapter, there
+     were more uses and removals of keys than there were keys when the chapter began.
+     `rrcache_record`, which ends the open chapter, always copies the entries of all keys. Names,
+     data and events are not copied. A good value of `chapter`, the maximum number of events in a
+     chapter, is about the number of keys in the shelf.
    - A caller that records a history should regularly take the closed chapters with
      `rrcache_take_chapters`, or drop them with `rrcache_drop_chapters`. The time to take chapters
      does not depend on their number. Dropping chapters frees all their events, and all copied
@@ -221,9 +223,10 @@
    - `rrcache_write_chapter` writes a taken chapter as text: a first line with the number of the
      chapter and the rules of the shelf, a line for each key that was cached when the chapter began,
      and a line for each event. The text of all chapters of one recording, in the order in which
-     they were taken, is an archive. `rrcache --audit-history` audits archives: it checks that the
-     history follows the rules. Chapters are numbered from 1, and chapters that were not recorded
-     have numbers too. So the number of the first chapter of a recording is 2 or higher.
+     they were taken, is an archive. The program `rrcache --audit-history` audits an archive: it
+     checks that the history in the archive follows the rules. Chapters are numbered from 1, and
+     chapters that were not recorded have numbers too. So the number of the first chapter of a
+     recording is 2 or higher.
    - Event numbers are used up if the next event would have the number 2^62, even if the shelf does
      not record. Chapter numbers are used up if the open chapter is full and has the number 2^62.
      From then on, each call that has to write an event returns RRCACHE_HISTORY_FULL, even if
@@ -263,11 +266,11 @@
    calls, only `rrcache_compose_response`, `rrcache_tell_octets` and `rrcache_status_text` call no
    exported function. An inline function returns RRCACHE_NULL if a required pointer is null. It
    returns RRCACHE_OVERLAP if anything that it writes, including the handle, overlaps another output
-   or an input, with one exception: a struct that contains pointers, such as
+   or an input. There is one exception: a struct that contains pointers, such as
    `struct rrcache_response`, may overlap an output, and so may a struct that is passed together
-   with such a struct, because the function reads these structs before it writes anything. Inputs
-   may overlap each other. The library cannot check whether a handle or a name was initialized to
-   zeros, whether two threads use one handle, or whether a buffer is as large as its size says. */
+   with such a struct. The function reads these structs before it writes anything. Inputs may
+   overlap each other. The library cannot check whether a handle or a name was initialized to zeros,
+   whether two threads use one handle, or whether a buffer is as large as its size says. */
 #ifndef RRCACHE_SHELF_H
 #define RRCACHE_SHELF_H
 
@@ -359,7 +362,7 @@ enum rrcache_kind {
     RRCACHE_STALE = 2,    /* an expired RRset (RFC 8767) */
     RRCACHE_NODATA = 3,   /* the name has no data of the type (RFC 2308 section 2.2) */
     RRCACHE_NXDOMAIN = 4, /* the name does not exist (RFC 2308 section 2.1) */
-    RRCACHE_MISS = 5,     /* the cache holds nothing that may answer */
+    RRCACHE_MISS = 5,     /* the cache holds nothing that may answer, and no recent failure */
     RRCACHE_FAILED = 6    /* the cache holds nothing that may answer, and it holds a recent failure:
                              a failure that is unexpired, and that was stored later than all other
                              entries for the question. A resolver answers with SERVFAIL until
@@ -375,8 +378,8 @@ enum rrcache_class { RRCACHE_IN = 1, RRCACHE_CH = 3, RRCACHE_HS = 4 };
 enum rrcache_purpose { RRCACHE_ANYTHING = 1, RRCACHE_QUESTION = 2 };
 
 /* When a stale answer is acceptable (RFC 8767 section 5). RRCACHE_NO_STALE: never.
-   RRCACHE_STALE_IF_FAILED: only if a failure is recent, which means that a miss would be
-   RRCACHE_FAILED. RRCACHE_STALE_NOW: with or without a failure. */
+   RRCACHE_STALE_IF_FAILED: only if a failure is recent (see RRCACHE_FAILED). RRCACHE_STALE_NOW:
+   with or without a failure. */
 enum rrcache_mode { RRCACHE_NO_STALE = 1, RRCACHE_STALE_IF_FAILED = 2, RRCACHE_STALE_NOW = 3 };
 
 /* The rank of data (RFC 2181 section 5.4.1), from low to high. */
@@ -406,7 +409,7 @@ enum rrcache_outcome { RRCACHE_KEPT = 1, RRCACHE_CLEARED = 2, RRCACHE_OUTRANKED 
    1034 section 5.3.3). In the comments below, *the type* is the type of the question. *The name* is
    the name of the question or, if CNAME records of the response lead from there to another name,
    that other name. At most 16 CNAME records are followed, and only as long as their owners are in
-   bailiwick. */
+   bailiwick. For a question of type CNAME or ANY, no CNAME record is followed. */
 enum rrcache_response_kind {
     RRCACHE_RESPONSE_ANSWER = 1,       /* the response has data of the type for the name */
     RRCACHE_RESPONSE_UNEQUAL_TTLS = 2, /* the response has data of the type for the name, but these
@@ -430,8 +433,8 @@ enum rrcache_response_kind {
                                       the class of the question is not kept, the name of the
                                       question is out of bailiwick, the CNAME chain does not end, or
                                       the response neither has data, nor denies that there are data,
-                                      nor is a referral. A server that does not serve the zone may
-                                      send such a response. Data of a type that is not kept are
+                                      nor is a referral. In the last case, perhaps the server does
+                                      not serve the zone. Data of a type that is not kept are
                                       skipped, so a NOERROR response to a question of such a type,
                                       except ANY, has this kind unless it is a referral or an
                                       alias */
@@ -471,8 +474,8 @@ struct rrcache_chapters {
     bool is_live;
 };
 
-/* A name in the form that calls on shelves take: folded to lower case, and hashed. Initialize the
-   struct to zeros; `rrcache_make_name` fills it. `part` is the number of the shelf of the name,
+/* A name in the form that look-ups in shelves take: folded to lower case, and hashed. Initialize
+   the struct to zeros; `rrcache_make_name` fills it. `part` is the number of the shelf of the name,
    counted from 0. `hash` is the 64-bit SipHash-1-3 of the folded name under the seed, and the
    caller may use this hash in its own tables. The caller may copy the struct, which is valid as
    long as the seed and the number of parts are in use. */
@@ -486,9 +489,9 @@ struct rrcache_name {
 };
 
 /* How names are divided among shelves: `count` is the number of shelves, 1 to 64, and `seed` is the
-   seed in the rules of these shelves. The library hashes names with SipHash-1-3, using the seed as
-   the key, and the upper 32 bits of the hash determine the shelf. Under another seed, a name may
-   belong to another shelf, in which the data of the name would not be found. */
+   seed in the rules of these shelves. The library hashes names with SipHash-1-3 under this seed,
+   and the upper 32 bits of the hash determine the shelf. Under another seed, a name may belong to
+   another shelf, in which the data of the name would not be found. */
 struct rrcache_parts {
     uint64_t count;
     uint8_t seed[16];
@@ -529,24 +532,27 @@ struct rrcache_entry {
     uint64_t moment; /* the timestamp of the offer that was stored */
     uint64_t number; /* the number of the event that stored the entry; no other entry of the shelf
                         has this number */
-    uint64_t age;    /* the number of uses of keys since the last use of this key, so at most that
-                        many other keys have been used since then. A key is used when an entry is
-                        stored under it, and when its entry answers an ask. In a reply, `age` is the
-                        age before the call: an ask then moves the entry to the front of the LRU
-                        order, and a peek does not. If the entry is already at the front (age 0), an
-                        ask does not count as a use */
+    uint64_t age;    /* not a time: the number of uses of keys since the last use of this key, so at
+                        most that many other keys have been used since then. A key is used when an
+                        entry is stored under it, and when its entry answers an ask. In a reply,
+                        `age` is the number before the call: an ask then moves the entry to the
+                        front of the LRU order, and a peek does not. If the entry is already at the
+                        front (`age` 0), an ask does not count as a use */
 };
 
 /* A reply. The first `owner_size` octets of the buffer are the owner in wire form, in the spelling
    in which it was received. The next `data_size` octets are the rdata of each record of the RRset,
    or of the SOA record of a negative answer. A length of two octets, high octet first, precedes the
-   rdata of each record. A miss has neither an owner nor rdata. */
+   rdata of each record. A reply of kind RRCACHE_MISS or RRCACHE_FAILED has neither an owner nor
+   rdata. */
 struct rrcache_told {
     uint32_t kind;       /* enum rrcache_kind */
     uint32_t rtype;      /* the type of the reply: the type of the question, or CNAME (5) if
-                            `rrcache_ask_alias` returns the CNAME record of the name */
+                            `rrcache_ask_alias` or `rrcache_peek_alias` returns the CNAME record of
+                            the name */
     uint32_t left;       /* for how many seconds the reply may be used: the remaining TTL, 30 for
-                            RRCACHE_STALE (RFC 8767 section 4), or 0 for a miss */
+                            RRCACHE_STALE (RFC 8767 section 4), or 0 for RRCACHE_MISS and
+                            RRCACHE_FAILED */
     uint64_t retry_from; /* for RRCACHE_FAILED, the timestamp from which the resolver may try again;
                             otherwise 0. After RRCACHE_STALE, a peek with RRCACHE_NO_STALE returns
                             this timestamp; in a `struct rrcache`, a look-up with RRCACHE_NO_STALE
@@ -595,8 +601,8 @@ struct rrcache_limits {
         604800, 10800, 30                                                                          \
     }
 
-/* When to sweep. `rrcache_sweep_some` stops, at the latest, when it has removed at least `most`
-   keys or made `most` sweeps. */
+/* The timestamp at which to sweep. `most` is for `rrcache_sweep_some`, which stops, at the latest,
+   when it has removed at least `most` keys or made `most` sweeps. */
 struct rrcache_sweep_at {
     uint64_t moment;
     uint64_t line;
@@ -667,7 +673,7 @@ struct rrcache_line {
    the same soname. The only exception is `struct rrcache_parsed_response`: only an inline function
    reads it, so a later version of this header may add fields to it. Exported functions of rrcache.h
    read the other structs below. The inline functions of this header pass only the fields of these
-   structs to the library. */
+   arguments to the library, never the structs themselves. */
 
 /* The query that a response has to answer. */
 struct rrcache_query {
@@ -744,7 +750,7 @@ struct rrcache_set {
 /* A negative answer to offer: the name has no data of the type (`kind` RRCACHE_NODATA), or does not
    exist (RRCACHE_NXDOMAIN). `soa` has the rdata of the SOA record of the negative answer, without
    compressed names. With RRCACHE_NXDOMAIN, `rtype` is ignored, because a name that does not exist
-   has no types. */
+   has no data of any type. */
 struct rrcache_negative {
     const uint8_t *name;
     size_t name_size;
@@ -778,8 +784,8 @@ struct rrcache_failure {
 typedef int (*rrcache_sink)(void *state, const void *octets, size_t size);
 
 /* The numbers of octets that `rrcache_sizes` adds up. RRCACHE_ENTRY_OCTETS is for a key, with its
-   places in the LRU order, the map and the expiry queue. RRCACHE_VALUE_OCTETS is for a name, the
-   rdata of a record, or a list of several records. This number includes room for
+   places in the LRU order, the map of keys and the expiry queue. RRCACHE_VALUE_OCTETS is for a
+   name, the rdata of a record, or a list of several records. This number includes room for
    RRCACHE_INLINE_OCTETS octets of the name or rdata. Longer names, longer rdata, and lists are in a
    separate block of memory, for which RRCACHE_BLOCK_OCTETS is added. RRCACHE_SHARED_OCTETS is for
    the reference count of a name or of the data of a key, and for the block of this reference
@@ -1031,7 +1037,7 @@ static inline bool rrcache_holds(const struct rrcache_shelf *shelf, const void *
 /* Makes an empty shelf in a handle that holds no shelf. The shelf records nothing until
    `rrcache_record` is called, and until then no chapter becomes full. The library hashes names with
    SipHash-1-3 under the seed in the rules. The seed must be random and secret. Otherwise an
-   attacker can choose names with similar hashes, which makes calls slow.
+   attacker can slow calls down by choosing names with similar hashes.
 
    Returns RRCACHE_HAS_SHELF if the handle already holds a shelf, even if the rules are not valid.
    The shelf in the handle is then unchanged. Returns RRCACHE_BAD_RULES if a number in the rules is
@@ -1229,9 +1235,9 @@ static inline size_t rrcache_put_owner(struct rrcache_draft *draft,
 }
 
 /* Appends the records of an RRset, and returns their number. Records after the first have a
-   compression pointer as their owner, if a pointer can lead to the first owner. If the owner is the
-   name of the question, with letters in the same case, the first record has a pointer too, to the
-   name in the question. */
+   compression pointer as their owner, if a pointer can lead to the owner of the first record. If
+   the owner is the name of the question, with letters in the same case, the first record has a
+   pointer too, to the name in the question. */
 static inline size_t rrcache_put_set(struct rrcache_draft *draft, const struct rrcache_query *query,
                                      const struct rrcache_parsed_set *set)
 {
@@ -1372,8 +1378,8 @@ static inline enum rrcache_status rrcache_can_read(const struct rrcache_response
    be a handle that holds no offers. After the call, the handle holds the offers of the response
    that are relevant to the query. The call writes to `concerned` which parts these offers are for:
    bit 0 is set if there is an offer for part 0, bit 1 if there is an offer for part 1, and so on.
-   The caller then makes the offers to shelves with `rrcache_offer_read` or `rrcache_offer_one`,
-   gets an offer with `rrcache_tell_offer`, and gets the kind of the response with
+   The caller can then make the offers to shelves with `rrcache_offer_read` or `rrcache_offer_one`,
+   get the contents of each offer with `rrcache_tell_offer`, and get the kind of the response with
    `rrcache_tell_response`. If a response has no offers, for example because TC is set, `concerned`
    is 0. When the offers are no longer needed, always call `rrcache_free_offers`, even if the
    response had no offers. `rrcache_read_response` takes no shelf, needs no lock, and writes no
@@ -1401,7 +1407,8 @@ static inline enum rrcache_status rrcache_can_read(const struct rrcache_response
    - In the answer section, an RRset is relevant if its owner is the name of the question, or one of
      at most 11 names to which CNAME records lead from that name. The RRset must also have the type
      of the question or type CNAME; for a question of type ANY, it may have any type. A DNAME RRset
-     whose owner is above one of these names is relevant too.
+     whose owner is above one of these names is relevant too. For a question of type CNAME or ANY,
+     no CNAME record is followed.
    - In the authority section, the first RRset of each of the types NS, SOA and DS whose owner is at
      or above the final name is relevant. The final name is the name at the end of the CNAME chain
      that begins at the name of the question. A chain of more than 16 CNAME records has no final
@@ -1428,12 +1435,12 @@ static inline enum rrcache_status rrcache_can_read(const struct rrcache_response
    - In class IN, an RRset of type A with rdata that are not 4 octets long, or an RRset of type AAAA
      with rdata that are not 16 octets long.
 
-   So a server that is asked for one name can replace the cached data of another name in only three
-   cases. First, CNAME records of its response lead from the name of the question to the other name.
-   Second, NS, MX or SRV records of its response have the other name as a host. Third, the response
-   has NS, SOA, DS or DNAME records of the other name, which is above the name of the question or
-   above a name to which CNAME records lead from there. For NS and DS records, the restrictions
-   above apply too. */
+   So a server that is queried for one name can replace the cached data of another name in only
+   three cases. First, CNAME records of its response lead from the name of the question to the other
+   name. Second, NS, MX or SRV records of its response have the other name as a host. Third, the
+   response has NS, SOA, DS or DNAME records of the other name, and the other name is above the name
+   of the question or above a name to which CNAME records lead from there. For NS and DS records,
+   the restrictions above apply too. */
 static inline enum rrcache_status rrcache_read_response(struct rrcache_offers *offers,
                                                         const struct rrcache_response *response,
                                                         const struct rrcache_query *query,
@@ -1518,10 +1525,10 @@ static inline enum rrcache_status rrcache_offer_read(struct rrcache_shelf *shelf
 
 /* Writes to `summary` the RCODE, AA and TC of a response that was read into a handle, and the kind
    of the response (`enum rrcache_response_kind`). For a referral, the call writes the zone of the
-   referral to `name`; for an alias, it writes the target of the alias to `name`. This name is made
-   under the seed with which the response was read. For any other kind, `name` is unmodified. The
-   call never allocates and needs no lock, and its only errors are RRCACHE_NULL, RRCACHE_OVERLAP and
-   RRCACHE_NO_OFFERS. */
+   referral to `name`; for an alias, it writes the name to which the CNAME chain leads. This name is
+   made under the seed with which the response was read. For any other kind, `name` is unmodified.
+   The call never allocates and needs no lock, and its only errors are RRCACHE_NULL, RRCACHE_OVERLAP
+   and RRCACHE_NO_OFFERS. */
 static inline enum rrcache_status rrcache_tell_response(struct rrcache_offers *offers,
                                                         struct rrcache_name *name,
                                                         struct rrcache_summary *summary)
@@ -1589,10 +1596,10 @@ static inline uint64_t rrcache_data_room(const uint8_t *data, uint64_t size)
     return octets + (count > 1 ? RRCACHE_VALUE_OCTETS + RRCACHE_BLOCK_OCTETS : 0);
 }
 
-/* Computes how many octets an offer uses if it is stored under a key of its own, as `rrcache_sizes`
-   counts octets. `name`, `told` and `buffer` are the output of `rrcache_tell_offer`. If an offer
-   uses more octets than the limit to which the caller trims the shelf, the trim after this offer
-   would evict all keys. The caller can instead make only the other offers of the message, with
+/* Computes how many octets, as `rrcache_sizes` counts them, an offer uses if it is stored under a
+   new key. `name`, `told` and `buffer` are the output of `rrcache_tell_offer`. If an offer uses
+   more octets than the limit to which the caller trims the shelf, the trim after this offer would
+   evict all keys. The caller can instead make only the other offers of the message, with
    `rrcache_offer_one`, and answer the waiting client from the output of `rrcache_tell_offer`.
    Returns RRCACHE_SMALL if `buffer_size` is less than the sum of the sizes in `told`. Needs no
    lock. */
@@ -1707,10 +1714,11 @@ rrcache_offer_part_unchecked(struct rrcache_shelf *shelf, const struct rrcache_r
 /* Offers an RRset under its owner, and writes the outcome to `outcome` (`enum rrcache_outcome`). To
    flush an RRset or NODATA, offer a set with `ttl` 0, RRCACHE_AUTHORITATIVE_ANSWER and any valid
    data of the type. Such an offer clears the RRset or NODATA that the shelf holds for the name,
-   class and type. To flush an NXDOMAIN, call `rrcache_offer_negative` with RRCACHE_NXDOMAIN, the
-   same `trust`, `ttl` 0 and any SOA record, such as one with the root as its owner and 22 zero
-   octets as its rdata. No call flushes all names below a name. Replies have the data exactly as
-   they were offered, so the caller has to leave out duplicate records (RFC 2181 section 5).
+   class and type. To flush an NXDOMAIN, call `rrcache_offer_negative` with RRCACHE_NXDOMAIN,
+   RRCACHE_AUTHORITATIVE_ANSWER, `ttl` 0 and any SOA record, such as one with the root as its owner
+   and 22 zero octets as its rdata. No call flushes all names below a name. Replies have the data
+   exactly as they were offered, so the caller has to leave out duplicate records (RFC 2181 section
+   5).
 
    Returns RRCACHE_BAD_CHOICE if `trust` is not a rank, RRCACHE_BAD_TYPE if data of the type are not
    kept in the class, RRCACHE_BAD_NAME if the owner is not in wire form, RRCACHE_BAD_DATA if the
@@ -1780,9 +1788,9 @@ static inline enum rrcache_status rrcache_offer_negative(struct rrcache_shelf *s
 
 /* Offers a resolution failure of a name, a class and a type (RFC 9520). A failure is always stored,
    so `outcome` is RRCACHE_KEPT. A failure with `ttl` 0 replaces, and so ends, the failure that the
-   shelf holds for the name, class and type. No ask returns a failure with `ttl` 0. Such a failure
-   takes a key even if there is no failure to end, and may then evict another key. So offer a
-   failure with `ttl` 0 only after a call has returned RRCACHE_FAILED. Returns RRCACHE_BAD_TYPE if
+   shelf holds for the name, class and type. No ask or peek returns a failure with `ttl` 0. Such a
+   failure takes a key even if there is no failure to end, and may then evict another key. So offer
+   a failure with `ttl` 0 only after a call has returned RRCACHE_FAILED. Returns RRCACHE_BAD_TYPE if
    data of the type are not kept in the class, RRCACHE_BAD_NAME if the name is not in wire form, and
    RRCACHE_WRONG_BODY if `ttl` is above 2^31 - 1. Needs the write lock. */
 static inline enum rrcache_status rrcache_offer_failure(struct rrcache_shelf *shelf,
@@ -1886,18 +1894,18 @@ static inline enum rrcache_status rrcache_peek(const struct rrcache_shelf *shelf
    the record as a fresh answer, or as a stale answer that is acceptable. Second, the record takes
    precedence over the reply for the type of the question. The record takes precedence in each of
    these cases:
-   - The reply for the type is a miss.
+   - The reply for the type is RRCACHE_MISS or RRCACHE_FAILED.
    - The record was stored later than the entry that gives the reply for the type, unless that entry
      is unexpired and of higher rank.
    - The record was stored earlier than the entry that gives the reply for the type, but is
      unexpired and of higher rank.
 
    So the call chooses between the CNAME record and the data of the type in the same way as an ask
-   chooses between an RRset and an NXDOMAIN. As a result, an older address is not returned in place
-   of a newer CNAME record (RFC 8767 section 7). If one of the two conditions does not hold, the
-   call returns the reply for the type. It always does so for a question of type CNAME or ANY (RFC
-   1034 section 4.3.2), and for a question of type NSEC or RRSIG, because a name with a CNAME record
-   has NSEC and RRSIG records of its own (RFC 4035 section 2.5).
+   chooses between an RRset and an NXDOMAIN. As a result, an expired address is not returned in
+   place of a newer CNAME record that may be returned (RFC 8767 section 7). If either condition does
+   not hold, the call returns the reply for the type. It always does so for a question of type CNAME
+   or ANY (RFC 1034 section 4.3.2), and for a question of type NSEC or RRSIG, because a name with a
+   CNAME record may have NSEC and RRSIG records of its own (RFC 4035 section 2.5).
 
    If the reply is the CNAME record, the resolver then asks for the target of the record, under the
    lock of the target's shelf. The target is the name in the first rdata. Further rdata do not
@@ -1928,8 +1936,8 @@ static inline enum rrcache_status rrcache_ask_alias(struct rrcache_shelf *shelf,
                                               buffer_size == 0 ? &none : buffer, buffer_size);
 }
 
-/* Returns the reply that `rrcache_ask_alias` would return, as `rrcache_peek` does for
-   `rrcache_ask`. Needs only the read lock. */
+/* Returns the reply that `rrcache_ask_alias` would return, but writes no event and leaves the LRU
+   order unchanged. The errors are those of `rrcache_peek`. Needs only the read lock. */
 static inline enum rrcache_status rrcache_peek_alias(const struct rrcache_shelf *shelf,
                                                      const struct rrcache_name *name,
                                                      const struct rrcache_question *question,
@@ -1988,9 +1996,9 @@ rrcache_sweep(struct rrcache_shelf *shelf, const struct rrcache_sweep_at *sweep,
     return (enum rrcache_status)rrc_sweep(shelf, sweep, removed);
 }
 
-/* Writes to `moment` a timestamp before which no key of the shelf is fully expired. A sweep before
-   this timestamp removes nothing, and even a sweep at this timestamp may remove nothing. Before the
-   first sweep, the timestamp is the earliest time at which any of the entries stored so far is
+/* Writes to `moment` a timestamp before which no key of the shelf is fully expired. A sweep at an
+   earlier timestamp removes nothing, and even a sweep at this timestamp may remove nothing. Before
+   the first sweep, the timestamp is the earliest time at which any of the entries stored so far is
    fully expired, including entries that the shelf no longer holds. After a sweep, the timestamp is
    later than the timestamp of the sweep, until an offer is made or a chapter is closed. So if a
    loop sweeps at this timestamp until the timestamp is later than now, the loop always ends. The
@@ -2037,11 +2045,11 @@ static inline enum rrcache_status rrcache_sweep_some(struct rrcache_shelf *shelf
    A caller that trims after each message evicts about as many octets as the message stored, so no
    call takes long. The entries of the remaining keys do not change. Needs the write lock.
 
-   The eviction of data is one event: an offer of these data with TTL 0, which clears the key. The
-   eviction of a failure is two events: an offer of a failure with TTL 0, and a sweep at timestamp
-   0, which removes only entries with TTL 0. If the shelf already holds a failure with TTL 0, or has
-   held one since its last sweep, the trim begins with such a sweep, and `trimmed` does not count
-   the keys that this sweep removes.
+   In a trim, the eviction of data is one event: an offer of these data with TTL 0, which clears the
+   key. The eviction of a failure is two events: an offer of a failure with TTL 0, and a sweep at
+   timestamp 0, which removes only entries with TTL 0. If the shelf already holds a failure with TTL
+   0, or has held one since its last sweep, the trim begins with such a sweep, and `trimmed` does
+   not count the keys that this sweep removes.
 
    The octets that a trim limits are not all of the memory that a shelf uses. The first sweep of a
    shelf visits all its keys, and from then on the shelf keeps the times at which its keys expire.
@@ -2131,12 +2139,12 @@ static inline enum rrcache_status rrcache_stop_recording(struct rrcache_shelf *s
 }
 
 /* Writes to the front of the buffer as many octets of a line of a chapter as fit, starting at the
-   octet `place->from` of the line. The chapters of the handle, lines and octets are counted from 0.
-   The call writes to `told` the number of octets of the line, including its LF, and the number of
-   octets that it wrote to the buffer: 0 if `from` is at or after the end of the line. A chapter has
-   a first line with the number of the chapter and the rules of the shelf, a line for each key that
-   was cached when the chapter began, and a line for each event. The lines have the form of an
-   archive (docs/FORMATS.md). Returns RRCACHE_NO_CHAPTERS if the handle holds no chapters, and
+   octet `place->from` of the line. All fields of `place` are counted from 0. The call writes to
+   `told` the number of octets of the line, including its LF, and the number of octets that it wrote
+   to the buffer: 0 if `from` is at or after the end of the line. A chapter has a first line with
+   the number of the chapter and the rules of the shelf, a line for each key that was cached when
+   the chapter began, and a line for each event. The lines have the form of an archive
+   (docs/FORMATS.md). Returns RRCACHE_NO_CHAPTERS if the handle holds no chapters, and
    RRCACHE_NO_LINE if there is no such line or no such chapter. The call allocates memory for the
    whole line, and frees this memory before it returns. Needs no lock. */
 static inline enum rrcache_status rrcache_chapter_line(struct rrcache_chapters *chapters,
@@ -2157,10 +2165,10 @@ static inline enum rrcache_status rrcache_chapter_line(struct rrcache_chapters *
 }
 
 /* Writes a line of a chapter, including its LF, to `sink`, starting at the octet `place->from` of
-   the line. The chapters of the handle, lines and octets are counted from 0. Each call of the sink
-   gets RRCACHE_PIECE_OCTETS octets of the line, except the last call, which gets the rest. If the
-   sink returns nonzero, `rrcache_write_line` writes nothing more and returns RRCACHE_SINK. The
-   other errors are those of `rrcache_chapter_line`. Needs no lock. */
+   the line. All fields of `place` are counted from 0. Each call of the sink gets
+   RRCACHE_PIECE_OCTETS octets of the line, except the last call, which gets the rest. If the sink
+   returns nonzero, `rrcache_write_line` writes nothing more and returns RRCACHE_SINK. The other
+   errors are those of `rrcache_chapter_line`. Needs no lock. */
 static inline enum rrcache_status rrcache_write_line(struct rrcache_chapters *chapters,
                                                      const struct rrcache_place *place,
                                                      rrcache_sink sink, void *state)
@@ -2183,11 +2191,11 @@ static inline enum rrcache_status rrcache_write_line(struct rrcache_chapters *ch
     return RRCACHE_DONE;
 }
 
-/* Writes a chapter to `sink` as text: it writes each line as `rrcache_write_line` does. `chapter`
-   is the position of the chapter in the handle, counted from 0. The text of all chapters of one
-   recording, in the order in which they were taken, is an archive of the history. The sink must not
-   make a call with the handle of these chapters. Returns RRCACHE_NO_LINE if there is no such
-   chapter. The other errors are those of `rrcache_write_line`. Needs no lock. */
+/* Writes all lines of a chapter to `sink`, each as `rrcache_write_line` does. `chapter` is the
+   position of the chapter in the handle, counted from 0. The text of all chapters of one recording,
+   in the order in which they were taken, is an archive of the history. The sink must not make a
+   call with the handle of these chapters. Returns RRCACHE_NO_LINE if there is no such chapter. The
+   other errors are those of `rrcache_write_line`. Needs no lock. */
 static inline enum rrcache_status rrcache_write_chapter(struct rrcache_chapters *chapters,
                                                         uint64_t chapter, rrcache_sink sink,
                                                         void *state)
@@ -2232,10 +2240,11 @@ static inline enum rrcache_status rrcache_free_chapters(struct rrcache_chapters 
    uses RRCACHE_SHARED_OCTETS more than rdata of the same size.
 
    The shelf updates these counts whenever keys change, so the time of the call does not grow with
-   the number of keys. Two things are not counted: the events and chapters, which keep even the data
-   of evicted, replaced or swept keys; and, in a shelf that has been swept, the names and expiry
-   times of evicted keys, which the shelf keeps until these keys would have expired. The shelf keeps
-   them for at most twice as many evicted keys as it holds keys, plus 64. */
+   the number of keys. The number of octets leaves out two things: the events and chapters, which
+   keep even the data of evicted, replaced or swept keys; and, in a shelf that has been swept, the
+   names and expiry times of evicted keys, which the shelf keeps until these keys would have
+   expired. The shelf keeps them for at most twice as many evicted keys as it holds keys, plus
+   64. */
 static inline enum rrcache_status rrcache_sizes(const struct rrcache_shelf *shelf,
                                                 struct rrcache_usage *sizes)
 {
