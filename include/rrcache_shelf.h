@@ -148,13 +148,14 @@
      unexpired NXDOMAIN of the name is cached. For type ANY, such an NXDOMAIN gives the reply even
      if unexpired RRsets of higher rank are cached for the name.
    - Even if a message that answers its question has just been offered, the next ask for this
-     question may be a miss. Apart from evictions, there are five possible causes: the TTL is 0; the
-     type is not kept; the records of an RRset have different TTLs, AA is clear and `lowest_ttl` is
-     not set; a negative response has no SOA record; or the RRset is not relevant.
-     `rrcache_tell_response` still returns the kind of the response, and `rrcache_tell_offer`
-     returns even an RRset with TTL 0. The caller answers the waiting client from the output of
-     these calls. The caller has to read the message itself only to get data that are not offered,
-     such as data of a type that is not kept.
+     question may be a miss. Apart from evictions, there are six possible causes: the answer is
+     behind a CNAME record or a CNAME chain that is too long; the TTL is 0; the type is not kept;
+     the records of an RRset have different TTLs, AA is clear and `lowest_ttl` is not set; a
+     negative response has no SOA record; or the RRset is not relevant. `rrcache_tell_response`
+     still returns the kind of the response, and `rrcache_tell_offer` returns even an RRset with TTL
+     0. The caller answers the waiting client from the output of these calls. The caller has to read
+     the message itself only to get data that are not offered, such as data of a type that is not
+     kept.
    - If nothing is stored from a message that answers its question, a failure that is cached for the
      question is still returned as RRCACHE_FAILED until the failure expires. `rrcache_offer_failure`
      with `ttl` 0 ends the failure.
@@ -336,7 +337,8 @@ enum rrcache_status {
     RRCACHE_NO_OFFERS = 18,       /* the handle holds no offers, or none with this number */
     RRCACHE_HAS_OFFERS = 19,      /* the handle already holds offers */
     RRCACHE_OTHER_QUERY = 20,     /* the identifier or the question of the message is not that of
-                                     the query, or the message is itself a query */
+                                     the query, or the message is itself a query or too short for a
+                                     header */
     RRCACHE_NO_CHAPTERS = 21,     /* the handle holds no chapters */
     RRCACHE_HAS_CHAPTERS = 22,    /* the handle already holds chapters */
     RRCACHE_NO_LINE = 23,         /* there is no such chapter, or the chapter has no such line */
@@ -382,7 +384,8 @@ enum rrcache_purpose { RRCACHE_ANYTHING = 1, RRCACHE_QUESTION = 2 };
    with or without a failure. */
 enum rrcache_mode { RRCACHE_NO_STALE = 1, RRCACHE_STALE_IF_FAILED = 2, RRCACHE_STALE_NOW = 3 };
 
-/* The rank of data (RFC 2181 section 5.4.1), from low to high. */
+/* The rank of data (RFC 2181 section 5.4.1), from low to high. A negative answer has rank 4 if AA
+   is set and it is about the name of the question itself, and otherwise rank 2. */
 enum rrcache_trust {
     RRCACHE_ADDITIONAL = 1,               /* data of the additional section, or of the authority
                                              section of a non-authoritative response */
@@ -431,13 +434,15 @@ enum rrcache_response_kind {
     RRCACHE_RESPONSE_FAILURE = 7,  /* the RCODE is neither NOERROR nor NXDOMAIN */
     RRCACHE_RESPONSE_UNUSABLE = 8  /* none of the kinds above: TC is set, the opcode is not QUERY,
                                       the class of the question is not kept, the name of the
-                                      question is out of bailiwick, the CNAME chain does not end, or
-                                      the response neither has data, nor denies that there are data,
-                                      nor is a referral. In the last case, perhaps the server does
-                                      not serve the zone. Data of a type that is not kept are
-                                      skipped, so a NOERROR response to a question of such a type,
-                                      except ANY, has this kind unless it is a referral or an
-                                      alias */
+                                      question is out of bailiwick, the CNAME chain does not end,
+                                      RCODE is NXDOMAIN although the response has a record of the
+                                      name, or the response neither has data, nor denies that there
+                                      are data, nor is a referral; in this last case, perhaps the
+                                      server does not serve the zone. A response with AA set is not
+                                      a referral, even if it has NS records below the zone. Data of
+                                      a type that is not kept are skipped, so a NOERROR response to
+                                      a question of such a type, except ANY, has this kind unless it
+                                      is a referral or an alias */
 };
 
 /* The reason why octets cannot be read as a response (`rrcache_fault`). */
