@@ -187,12 +187,13 @@ def main(args):
         print(dict(zip(HEAD, rows[-1])), flush=True)
     write_section(
         args, TITLE,
-        f". Clients of the forwarder ask for cached names, {args.rate:.0f} times a second for "
-        f"{args.seconds:.0f} seconds. Meanwhile another client asks for {args.attack:.0f} names a "
-        "second, and a hostile server answers the queries for these names. The rows are for "
-        "different names and answers of this server; `bench/run latency --help` describes them. "
-        "The first three columns of numbers are waits of the clients in milliseconds: the median, "
-        "the 99th percentile and the longest. The next columns are the number of missing answers, "
+        f". Clients of the forwarder ask for cached names, together {args.rate:.0f} times a second "
+        f"for {args.seconds:.0f} seconds. Another client begins one second earlier, and asks for "
+        f"{args.attack:.0f} names a second; a hostile server answers the queries for these names. "
+        "The rows differ in these names and in the answers of the server; `bench/run latency "
+        "--help` describes the rows. The first three columns of numbers are the waits of the "
+        "clients that ask for cached names, in milliseconds: the median, the 99th percentile and "
+        "the longest. The next columns are the number of answers that these clients did not get, "
         "the number of queries of the other client, the number of these queries that the forwarder "
         "sent upstream, the processor time of the forwarder in seconds, and the growth of its "
         "memory in MB. The hostile server takes processor time too, so compare the other rows with "

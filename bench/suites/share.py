@@ -102,16 +102,17 @@ def main(args):
         (TOP / "docs" / "performance.svg").write_text(picture(rates))
     write_section(
         args, TITLE,
-        f". Each number is the median of {args.runs} runs, in millions per second of elapsed time. "
-        "A run was repeated if the host took processors away from the machine during the run. A "
-        f"run of asks or puts makes {args.calls:,} calls, counted over all threads, on a shared "
-        f"cache with {NAMES:,} names (`bench cache shared`). In a run of a replay, the program "
-        f"`rrcache` reads, replays, collates and reports a trace of {args.lines:,} lines. The last "
-        f"column is the rate of {of_threads(THREADS[-1])} divided by the rate of "
-        f"{of_threads(THREADS[0])}.",
+        f". Each number is the median of {args.runs} runs, in millions of calls or lines per "
+        "second of elapsed time. A run was repeated if the host took processors away from the "
+        f"machine during the run. A run of asks or puts makes {args.calls:,} calls, counted over "
+        f"all threads, on a shared cache with {NAMES:,} names (`bench cache shared`). In a run of "
+        "a replay, the program `rrcache` reads, replays, collates and reports a trace of "
+        f"{args.lines:,} lines. The last column is the rate of {of_threads(THREADS[-1])} divided "
+        f"by the rate of {of_threads(THREADS[0])}.",
         "![Millions per second](performance.svg)",
         table(["What", "Parts", *map(of_threads, THREADS), f"{THREADS[-1]} to {THREADS[0]}"], rows),
         filled(
             f"With one thread, an ask that hits takes {lent:.0f} ns on parts without locks, and "
             f"{shared:.0f} ns on a shared cache (medians of 16 short runs of each, which "
-            f"alternated). Taking the lock and finding the part take {shared - lent:.0f} ns."))
+            f"alternated). Before rounding, the difference is {shared - lent:.0f} ns: the time to "
+            "take the lock and to find the part."))

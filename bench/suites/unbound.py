@@ -131,7 +131,7 @@ def main(args):
     jemalloc = next(Path("/usr/lib").glob("*/libjemalloc.so.2"), None)
     ways = [(OF_CACHE, "cache", None),
             ("Shelves with mutexes and glibc's malloc:", "rrcache", None),
-            ("Shelves with spin locks, as unbound's are:", "spinning", None),
+            ("Shelves with spin locks, like those of unbound:", "spinning", None),
             ("Shelves with readers-writer locks, under which asks are peeks:", "peeking", None)]
     if jemalloc:
         ways.append(("Shelves with mutexes and jemalloc:", "rrcache", str(jemalloc)))
@@ -144,15 +144,16 @@ def main(args):
             f"{it:.2f}" for it in chain.from_iterable(found[kind]))]
             for kind, title in KINDS.items()])]
         if way == OF_CACHE:
-            parts.append("![Rates of `struct rrcache`, as shares of unbound's](beside-unbound.svg)")
+            parts.append("![Rates of `struct rrcache`, as multiples of unbound's]"
+                         "(beside-unbound.svg)")
             rates = {kind: [rate for _, rate in each] for kind, each in found.items()}
     if args.write:
         (TOP / "docs" / "beside-unbound.svg").write_text(picture(rates, args.threads))
     write_section(
         args, TITLE,
-        f". Both caches had {args.names:,} names with one A record each, and 64 shards. The "
-        f"numbers are medians of {args.runs} runs of each cache, with {args.calls:,} calls per "
-        "run; the runs of the two caches alternated. Time is the processor time of a call as a "
-        "multiple of the time that a call of unbound's RRset cache takes, so less is better. Rate "
-        "is the number of calls per second of elapsed time as a multiple of unbound's rate, so "
-        "more is better.", *parts)
+        f". rrcache and unbound's RRset cache had {args.names:,} names with one A record each, and "
+        f"64 shards. Each number is a ratio of the medians of {args.runs} runs of each cache, with "
+        f"{args.calls:,} calls per run; the runs of the two caches alternated. Time is the "
+        "processor time of a call as a multiple of the time that a call of unbound's cache takes, "
+        "so less is better. Rate is the number of calls per second of elapsed time as a multiple "
+        "of unbound's rate, so more is better.", *parts)
