@@ -43,9 +43,9 @@
      LRU order, because a move changes the shelf. In a shelf that is at least three quarters full,
      by octets or by keys, a look-up moves its entry if more than a quarter of the shelf's keys may
      have been used since the last use of that entry. In all other cases a look-up does not move its
-     entry, with one exception: if most of the recent look-ups had to move their entries, the next
-     few look-ups move theirs too. With `exact_recency`, every look-up moves its entry.
-     docs/RULES.md says which LRU order a caller can rely on.
+     entry, with two exceptions. If most of the recent look-ups had to move their entries, the next
+     few look-ups move theirs too. With `exact_recency`, and while histories are being recorded,
+     every look-up moves its entry. docs/RULES.md says which LRU order a caller can rely on.
 
    Memory
    - An answer is a copy in the caller's buffer. The copy stays valid after the entries that it came
@@ -62,9 +62,9 @@
    - In addition, `rrcache_open` allocates the places, memos of answers, and a filter of the names
      that may be aliases. All memos together use at most 1/16 of `octets`, and at most about 235 KiB
      times `readers`. The filter of aliases uses at most about 1/80 of `octets`, and at most 128 KiB
-     for each shelf. A second filter, of the names that may have a negative answer or a failure,
-     uses 2 to 4 octets for each key that `keys` allows, regardless of `octets`: 8 MiB with the
-     default number of keys. So if `octets` is small, set `keys` too.
+     for each shelf. A second filter, of the names that may have an NXDOMAIN or a failure, uses 2 to
+     4 octets for each key that `keys` allows, regardless of `octets`: 8 MiB with the default number
+     of keys. So if `octets` is small, set `keys` too.
    - A cache has at most 64 shelves of 65,536 keys, or 4,194,304 keys in all. An RRset of one
      address with a short name uses 320 octets. So a cache holds at most about 1.3 GB of such
      RRsets, even if `octets` is larger.
@@ -73,11 +73,11 @@
    - An RRset that would use more memory than its shelf's share of `octets` is not stored. In tests,
      the largest RRset of a response used 242,208 octets. So with 64 shelves, set `octets` to at
      least 16 MiB, and use fewer shelves if `octets` is smaller.
-   - Look-ups allocate memory only while a history is being recorded. `rrcache_next`,
-     `rrcache_stats`, `rrcache_stats_of` and `rrcache_stats_text` never allocate. If malloc fails in
-     any other call, except during an eviction, the call returns RRCACHE_MEMORY. The contents of the
-     cache are then unchanged, with three exceptions: `rrcache_store`, `rrcache_sweep_all` and
-     `rrcache_forget` may have done part of their work.
+   - Look-ups allocate memory only while histories are being recorded (`rrcache_record_all`).
+     `rrcache_next`, `rrcache_stats`, `rrcache_stats_of` and `rrcache_stats_text` never allocate. If
+     malloc fails in a call, except during an eviction, the call returns RRCACHE_MEMORY. The
+     contents of the cache are then unchanged, with three exceptions: `rrcache_store`,
+     `rrcache_sweep_all` and `rrcache_forget` may have done part of their work.
 
    Timestamps
    - Timestamps (`moment`) are numbers of seconds, at most 2^40. If a timestamp is 0, the call uses
@@ -110,8 +110,8 @@
    - After RRCACHE_HISTORY_FULL, the shelf whose event numbers are used up can no longer store
      anything. In this case, close the cache and open a new one. At 10^9 events a second in one
      shelf, the numbers last for 146 years.
-   - If a field of `struct rrcache_config` is 0, its default applies. The same is true of a limit in
-     a `struct rrcache_response` that is passed to `rrcache_store`. For the functions of
+   - If a field of `struct rrcache_config` is 0, its default applies. If a limit of a response that
+     is passed to `rrcache_store` is 0, the limit of the cache applies. For the functions of
      rrcache_shelf.h, a limit of 0 or a seed of zeros is an error.
 
    ABI
@@ -209,8 +209,8 @@ struct rrcache_answer {
 };
 
 /* An RRset of an answer, in the form that `rrcache_compose_response` takes. In a negative answer,
-   the RRset is the SOA record, which belongs in the authority section. Initialize this struct to
-   zeros. */
+   the last RRset is the SOA record, which belongs in the authority section. Initialize this struct
+   to zeros. */
 struct rrcache_rrset {
     struct rrcache_parsed_set set; /* its `ttl` is the TTL for the client: the remaining TTL, or 30
                                       if the RRset is stale. Each RRset of a CNAME chain has its own
@@ -224,9 +224,9 @@ struct rrcache_rrset {
                                    no field identifies the shelf. So a caller that keeps data about
                                    entries, such as a security status, must find these data by a
                                    name together with `number`. The name is the owner or, in a
-                                   negative answer, `end`. docs/RULES.md, "DNSSEC", says how the
-                                   caller gets this number. In an answer of `rrcache_store`,
-                                   `number` and `age` are 0 */
+                                   negative answer, `end`. In an answer of `rrcache_store`, `number`
+                                   and `age` are 0: docs/RULES.md, "DNSSEC", says how the caller
+                                   gets the number of stored data */
     size_t next;                /* the offset of the next RRset in the buffer */
 };
 
@@ -326,8 +326,8 @@ RRCACHE_API bool rrcache_next(const struct rrcache_answer *answer, struct rrcach
 
 /* Reads the response to a query as `rrcache_read_response` does, and stores the RRsets, the
    negative answer and the failure of the response that are relevant to the query, each in the shelf
-   of its name. An RRset that would use more memory than one shelf may use is left out. If a limit
-   of `response` is 0, the limit of the cache applies.
+   of its name. An RRset or a negative answer that would use more memory than one shelf may use is
+   left out. If a limit of `response` is 0, the limit of the cache applies.
 
    Returns RRCACHE_OTHER_QUERY if the octets do not answer the query: the caller then drops them and
    keeps waiting (RFC 5452 section 9.1). RRCACHE_NO_QUESTION and, unless TC is set,
@@ -339,11 +339,12 @@ RRCACHE_API bool rrcache_next(const struct rrcache_answer *answer, struct rrcach
    RRCACHE_BAD_MESSAGE. So if TC is set (0x02 of the third octet), RRCACHE_BAD_MESSAGE does not mean
    that the server has failed.
 
-   To read a response without storing it, call `rrcache_read_response` with one part, any seed that
-   is not zeros, and limits that are not 0. That call compares the response with the query as
-   `rrcache_store` does. Then `rrcache_tell_response` returns the kind and RCODE, and
-   `rrcache_tell_offer` returns each relevant RRset, even one with TTL 0. In this way, a resolver
-   can see whether one of several servers has failed before it stores a failure.
+   To read a response without storing it, call `rrcache_read_response` with a `struct rrcache_parts`
+   of one part and any seed that is not zeros, and with limits that are not 0. That call compares
+   the response with the query as `rrcache_store` does. Then `rrcache_tell_response` returns the
+   kind and RCODE, and `rrcache_tell_offer` returns each relevant RRset, even one with TTL 0. In
+   this way, a resolver with several servers to ask can see that one of them has failed, without
+   storing a failure.
 
    The RRsets of a referral are stored, but are not in `answer`. `name` of `report` is the zone of
    the referral, `rrcache_lookup_delegation` returns the NS RRset, and look-ups with `takes_glue`
@@ -366,20 +367,21 @@ RRCACHE_API bool rrcache_next(const struct rrcache_answer *answer, struct rrcach
    follows at most RRCACHE_MOST_ALIASES CNAME records, and returns RRsets of any size. The limits on
    what is relevant, and therefore stored, are lower: fewer CNAME records are followed, and only
    smaller RRsets are relevant. In `answer`, rdata of types A and AAAA may have any length. If the
-   type of the query is not kept, such as NAPTR, each record is returned as an RRset of its own, and
-   RRCACHE_NODATA means that an SOA record denies the type. If the query is of type NSEC or RRSIG,
-   and the response has such records of the name of the query, `answer` has these records, and no
-   CNAME record is followed, even if the kind of the response is RRCACHE_RESPONSE_ALIAS. `kind` is
-   RRCACHE_MISS if only `report` has the result, as for a negative response without an SOA record.
+   query is of a type that is not kept, such as NAPTR, each record is returned as an RRset of its
+   own, and RRCACHE_NODATA means that an SOA record denies the type. If the query is of type NSEC or
+   RRSIG, and the response has such records of the name of the query, `answer` has these records,
+   and no CNAME record is followed, even if the kind of the response is RRCACHE_RESPONSE_ALIAS.
+   `kind` is RRCACHE_MISS if only `report` has the result, as for a negative response without an SOA
+   record.
 
    If the response has only the beginning of a CNAME chain, its kind is RRCACHE_RESPONSE_ALIAS, and
    `kind` of the answer is RRCACHE_MISS. Keep the CNAME RRsets of this answer, and look up `end`
    next. Do not look up the name of the query again: if a CNAME record of the chain has TTL 0, it is
    not stored, and the look-up is a miss again.
 
-   So look at `kind` of the answer first, and at the kind of the response only if the answer is a
-   miss. Records of a type that is not kept do not affect the kind of a response. If the query is of
-   such a type, the kind of a response that has or denies the data is usually
+   Look at `kind` of the answer first, and at the kind of the response only if the answer is a miss,
+   because records of a type that is not kept do not affect the kind of a response. If the query is
+   of such a type, the kind of a response that has or denies the data is usually
    RRCACHE_RESPONSE_UNUSABLE or, if a CNAME record leads to the data, RRCACHE_RESPONSE_ALIAS.
 
    Also returns RRCACHE_BAD_LIMITS if a limit is out of range, and RRCACHE_BAD_NAME if the zone or
@@ -439,8 +441,8 @@ RRCACHE_API enum rrcache_status rrcache_forget(struct rrcache *cache,
    locks of a shelf after every 64 keys, and lets threads that wait for these locks go first. There
    are two exceptions: keys that expire in the same second are removed together, and the first sweep
    of a shelf visits all its keys. A caller need not sweep, because eviction makes room. A sweep at
-   the timestamp 2^40 removes all keys whose data were stored before 2^40 - 2^32, so a caller with a
-   clock such as CLOCK_BOOTTIME can empty the cache in this way. Later calls may pass smaller
+   the timestamp 2^40 removes each key whose entry has a timestamp below 2^40 - 2^32, so a caller
+   with a clock such as CLOCK_BOOTTIME can empty the cache in this way. Later calls may pass smaller
    timestamps.
 
    Returns RRCACHE_BAD_RULES if `most` is 0. May also return RRCACHE_MOMENT_TOO_LARGE,
@@ -475,11 +477,12 @@ RRCACHE_API enum rrcache_status rrcache_stats_of(struct rrcache *cache, uint64_t
 RRCACHE_API enum rrcache_status rrcache_stats_text(const struct rrcache_stats *stats, char *text,
                                                    size_t size);
 
-/* Starts to record the histories of all shelves. While histories are being recorded, each look-up
-   is an event, changes its shelf, and moves its entry to the front of the LRU order. Events use at
-   least 96 octets each and stay in memory until recording stops. `octets` does not limit this
-   memory. If histories are already being recorded, the call does nothing. May return
-   RRCACHE_HISTORY_FULL or RRCACHE_MEMORY. On error nothing is recorded. */
+/* Starts to record the history of each shelf: a list of events, which are calls with their results.
+   While histories are being recorded, each look-up is an event, changes its shelf, and moves its
+   entry to the front of the LRU order. Events use at least 96 octets each and stay in memory until
+   recording stops. `octets` does not limit this memory. If histories are already being recorded,
+   the call does nothing. May return RRCACHE_HISTORY_FULL or RRCACHE_MEMORY. On error nothing is
+   recorded. */
 RRCACHE_API enum rrcache_status rrcache_record_all(struct rrcache *cache);
 
 /* Stops recording, and writes the archive of each shelf, which is the text of its history, to
@@ -492,12 +495,12 @@ RRCACHE_API enum rrcache_status rrcache_stop_recording_all(struct rrcache *cache
                                                            rrcache_shelf_sink sink, void *state);
 
 /* Writes the contents of each shelf to `sink`, one shelf after another, in the form in which a
-   chapter of an archive begins (docs/FORMATS.md). The text of a shelf shows its contents at one
-   point in time: other calls on the shelf wait while its keys are listed. The call allocates memory
-   for the keys of one shelf at a time. No call reads these contents back into a cache. But a caller
-   can store each entry in a new cache, with the rank, TTL and timestamp of its line, in the order
-   of the event numbers. After a restart of the machine, CLOCK_BOOTTIME begins at zero again, so the
-   caller must first convert the timestamps (docs/RULES.md, "Listing and saving keys").
+   chapter (segment) of an archive begins (docs/FORMATS.md). The text of a shelf shows its contents
+   at one point in time: other calls on the shelf wait while its keys are listed. The call allocates
+   memory for the keys of one shelf at a time. No call reads these contents back into a cache. But a
+   caller can store each entry in a new cache, with the rank, TTL and timestamp of its line, in the
+   order of the event numbers. After a restart of the machine, CLOCK_BOOTTIME begins at zero again,
+   so the caller must first convert the timestamps (docs/RULES.md, "Listing and saving keys").
    docs/CAPTURES.md, "A wrong answer", says what a dump shows about an answer. Returns
    RRCACHE_HAS_CHAPTERS while histories are being recorded, and RRCACHE_SINK if the sink returns
    nonzero. May also return RRCACHE_HISTORY_FULL or RRCACHE_MEMORY. */
