@@ -161,8 +161,8 @@ struct rrcache_request {
     uint16_t rclass;        /* enum rrcache_class */
     uint64_t moment;        /* a timestamp, or 0 for now */
     enum rrcache_mode mode; /* when a stale answer is acceptable; `rrcache_lookup` refuses 0 */
-    bool takes_glue; /* whether additional data are acceptable, such as glue, which must not answer
-                        a client's question (RFC 2181 section 5.4.1) */
+    bool takes_glue; /* whether additional data, such as glue, are acceptable; additional data must
+                        not answer a client's question (RFC 2181 section 5.4.1) */
 };
 
 /* The maximum number of CNAME records that a look-up follows. */

@@ -1504,15 +1504,15 @@ rrcache_read_message_unchecked(struct rrcache_offers *offers,
         concerned);
 }
 
-/* Offers to the shelf of one part all data that were read into a handle for this part, with the
-   timestamp of the response. The part is `share->part`, which is counted from 0, and must be below
-   the number of parts for which the message was read. The handle keeps the offers, so the caller
-   may make the offers for a part again. The shelf keeps the data that it stored even after the
-   offers of the handle are freed. The call copies no names and no data. It writes to `counts` how
-   many of the offers had each outcome. If an offer fails, `counts` has the outcomes of the offers
-   before it. Returns RRCACHE_BAD_RULES if there is no such part, and RRCACHE_OTHER_SEED if the seed
-   of the shelf is not the seed with which the message was read, because then no ask would find the
-   data. Needs the write lock of the shelf. */
+/* Offers to the shelf of one part all data for this part that a handle holds, with the timestamp of
+   the response. The part is `share->part`, which is counted from 0, and must be below the number of
+   parts for which the message was read. The handle keeps the offers, so the caller may make the
+   offers for a part again. The shelf keeps the data that it stored even after the offers of the
+   handle are freed. The call copies no names and no data. It writes to `counts` how many of the
+   offers had each outcome. If an offer fails, `counts` has the outcomes of the offers before it.
+   Returns RRCACHE_BAD_RULES if there is no such part, and RRCACHE_OTHER_SEED if the seed of the
+   shelf is not the seed with which the message was read, because then no ask would find the data.
+   Needs the write lock of the shelf. */
 static inline enum rrcache_status rrcache_offer_read(struct rrcache_shelf *shelf,
                                                      struct rrcache_offers *offers,
                                                      const struct rrcache_share *share,
@@ -2003,12 +2003,12 @@ rrcache_sweep(struct rrcache_shelf *shelf, const struct rrcache_sweep_at *sweep,
 
 /* Writes to `moment` a timestamp before which no key of the shelf is fully expired. A sweep at an
    earlier timestamp removes nothing, and even a sweep at this timestamp may remove nothing. Before
-   the first sweep, the timestamp is the earliest time at which any of the entries stored so far is
-   fully expired, including entries that the shelf no longer holds. After a sweep, the timestamp is
-   later than the timestamp of the sweep, until an offer is made or a chapter is closed. So if a
-   loop sweeps at this timestamp until the timestamp is later than now, the loop always ends. The
-   timestamp is UINT64_MAX if and only if the shelf holds no key. The call writes no event, and
-   needs only the read lock. */
+   the first sweep, if the shelf holds a key, the timestamp is the earliest time at which any of the
+   entries stored so far is fully expired, including entries that the shelf no longer holds. After a
+   sweep, the timestamp is later than the timestamp of the sweep, until an offer is made or a
+   chapter is closed. So if a loop sweeps at this timestamp until the timestamp is later than now,
+   the loop always ends. The timestamp is UINT64_MAX if and only if the shelf holds no key. The call
+   writes no event, and needs only the read lock. */
 static inline enum rrcache_status rrcache_next_expiry(const struct rrcache_shelf *shelf,
                                                       uint64_t *moment)
 {

@@ -9,9 +9,11 @@ asks that hit and copy, of any name and by Zipf's law, one name that is always a
 replace, and puts that evict in a cache with no room. It is `struct rrcache`, and in runs of their
 own shelves whose locks are mutexes, spin locks, as unbound's are, or locks for readers, under which
 asks are peeks. Each ratio is that of the medians of RUNS runs; ratios count, since machines
-differ. `--write` writes also docs/beside-unbound.svg, the rates of `struct rrcache`.
+differ. valgrind counts the instructions and the cache misses of a call. `--write` writes also
+docs/beside-unbound.svg, the rates of `struct rrcache`.
 """
 import os
+import re
 import shutil
 import subprocess
 import sys
@@ -38,6 +40,28 @@ ARCHIVES = ["apt-get", "indextargets", "Created-By: Packages", "Codename: bookwo
 OF_CACHE = filled("The first table is for `struct rrcache` with its own locks. Its look-ups follow"
                   " aliases, but the asks of shelves in the other tables do not. No name in these"
                   " tables is an alias:")
+# What valgrind counts of a run, and the caches of the processor that it simulates: their octets,
+# ways and the octets of a line.
+EVENTS = ("I +refs", "D1 +misses", "LLd misses")
+SIMULATED = ("--cache-sim=yes", "--D1=32768,8,64", "--LL=1048576,16,64",
+             "--cachegrind-out-file=/dev/null")
+FEW, MANY = 20_000, 120_000
+OF_COUNTS = filled(
+    "The next table has what one call takes on one thread, as valgrind counts it on a simulated "
+    "processor with 32 KiB of first-level cache for data and 1 MiB of second-level cache: "
+    "instructions, and misses of either cache.")
+BOUNDS = filled(
+    "In the runs of asks for one name, memos answer the asks as long as nothing changes in the "
+    "shelf of this name. A memo is an answer that a reader keeps. The other calls miss the "
+    "second-level cache no more often than those of unbound. What bounds them is the number of "
+    "their instructions, most of which are in proved code. A look-up folds the name and hashes it "
+    "under a secret seed, and then peeks. A store reads and hashes the name once more, checks the "
+    "rdata, and counts the octets of what it stores and evicts. A store that evicts also takes "
+    "three blocks of memory from `malloc` and frees three, and a store that replaces takes two and "
+    "frees two. So changes of the C code alone cannot reach unbound's rates for random names. "
+    "Stores in which the proved call takes a name that is already made would come closer. So would "
+    "look-ups that read the filter of names with NXDOMAINs and failures before they search for the "
+    "key, because the processor could then wait for both at once.")
 KINDS = {"hit": "asks that hit", "zipf": "asks by Zipf's law", "hot": "asks for one name",
          "replace": "puts that replace", "evict": "puts that evict"}
 # How tall the picture is, how tall its highest bar, and where the bars stand.
@@ -124,6 +148,31 @@ def picture(rates, threads):
     return svg([*rows, *key(map(of_threads, threads), top)], TALL)
 
 
+def events(program, kind, calls, names):
+    """The counts of a whole run with one thread."""
+    told = ran("valgrind", "--tool=cachegrind", *SIMULATED, program, 1, calls, kind, names).stderr
+    return [int(re.search(rf"{it}: +([\d,]+)", told)[1].replace(",", "")) for it in EVENTS]
+
+
+def counts(program, kind, names):
+    """The counts of one call."""
+    few, many = (events(program, kind, it, names) for it in (FEW, MANY))
+    return [(more - less) / (MANY - FEW) for less, more in zip(few, many)]
+
+
+def counted(made, args):
+    """The table of what calls of `struct rrcache` and of unbound take."""
+    rows = []
+    for kind, title in KINDS.items():
+        own, other = (counts(made[it], kind, args.names) for it in ("cache", "unbound"))
+        rows.append([title, f"{own[0]:,.0f}", f"{other[0]:,.0f}",
+                     *(f"{it:.1f}" for it in chain.from_iterable(zip(own[1:], other[1:])))])
+        print(*rows[-1], flush=True)
+    head = (f"{what}, {whose}" for what in ("instructions", "first level", "second level")
+            for whose in ("rrcache", "unbound"))
+    return table(["What", *head], rows)
+
+
 def main(args):
     if shutil.which("apt-get") is None:
         return "unbound's source comes by apt-get, which is not on this machine"
@@ -144,8 +193,8 @@ def main(args):
             f"{it:.2f}" for it in chain.from_iterable(found[kind]))]
             for kind, title in KINDS.items()])]
         if way == OF_CACHE:
-            parts.append("![Rates of `struct rrcache`, as multiples of unbound's]"
-                         "(beside-unbound.svg)")
+            parts += ["![Rates of `struct rrcache`, as multiples of unbound's](beside-unbound.svg)",
+                      OF_COUNTS, counted(made, args), BOUNDS]
             rates = {kind: [rate for _, rate in each] for kind, each in found.items()}
     if args.write:
         (TOP / "docs" / "beside-unbound.svg").write_text(picture(rates, args.threads))
