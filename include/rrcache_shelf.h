@@ -1362,8 +1362,8 @@ rrcache_compose_response(const struct rrcache_query *query,
 }
 
 /* Checks the pointers of a call that reads a response and writes two ranges of memory. Returns
-   RRCACHE_NULL if a required pointer is null, and RRCACHE_OVERLAP if one of these ranges overlaps
-   the other range, the octets of the response or the zone. */
+   RRCACHE_NULL if a required pointer is null, and RRCACHE_OVERLAP if the two ranges overlap each
+   other, or if one of them overlaps the octets of the response or the zone. */
 static inline enum rrcache_status rrcache_can_read(const struct rrcache_response *response,
                                                    const void *one, size_t one_size,
                                                    const void *other, size_t other_size)
