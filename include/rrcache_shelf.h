@@ -1,7 +1,7 @@
 /* SPDX-License-Identifier: MIT */
 /* rrcache_shelf.h: the shelves of the RRset cache of a recursive DNS resolver, for C programs that
-   do their own locking or threading. For a cache that has its own locks, so that threads can share
-   it, use rrcache.h, which includes this header.
+   do their own locking or threading. rrcache.h, which includes this header, provides a cache that
+   has its own locks and that threads can share.
 
    A *shelf* is one shard of the cache. A resolver with several threads makes 16 to 64 shelves, and
    keeps a lock for each shelf. For each question, the resolver calls `rrcache_make_name` once. This
@@ -9,18 +9,19 @@
    All data of a name are in one shelf, regardless of the case of the letters in the name. A hash of
    the name under a secret seed determines the shelf, and all shelves of a cache have the same seed
    (`struct rrcache_rules`, `struct rrcache_parts`). If the seed were not secret, an attacker could
-   choose names that all belong to one shelf, to fill that shelf and keep its lock busy. With more
-   shelves, fewer threads wait for the same lock. For a program with one thread, one shelf without a
-   lock is enough.
+   choose names that all belong to one shelf, and so fill that shelf and keep its lock busy. With
+   more shelves, fewer threads wait for the same lock. For a program with one thread, one shelf
+   without a lock is enough.
 
-   This header uses these terms. There are three kinds of *key*: a name, a class and a type, for the
-   RRset or NODATA of this type; a name and a class, for the NXDOMAIN; and a name, a class and a
-   type, for the resolution failure of this type. An *entry* is what a key holds. To *offer* data is
-   to pass them to a shelf, which decides whether it stores them (`enum rrcache_outcome`). An *ask*
-   looks up an answer, and moves the entry that gives the answer to the front of the LRU order. A
-   *peek* looks up an answer and changes nothing. A *part* consists of all names that belong to one
-   shelf, and has the same number as the shelf, counted from 0. A type or a class is *kept* if the
-   library stores its data; data of all other types and classes are skipped.
+   This header uses the following terms. There are three kinds of *key*: a name, a class and a type,
+   for the RRset or NODATA of this type; a name and a class, for the NXDOMAIN; and a name, a class
+   and a type, for the resolution failure of this type. An *entry* is the RRset, negative answer or
+   failure that a key holds. To *offer* data is to pass them to a shelf, which decides whether to
+   store them (`enum rrcache_outcome`). An *ask* looks up an answer, and moves the entry that gives
+   the answer to the front of the LRU order. A *peek* looks up an answer but changes nothing. A
+   *part* consists of all names that belong to one shelf, and has the same number as the shelf,
+   counted from 0. A type or a class is *kept* if the library stores its data; the library skips
+   data of all other types and classes.
 
    docs/RULES.md describes the rules of the cache. Some names in this header differ from the terms
    on that page: a `moment` is a timestamp, `trust` is a rank, `left` is a remaining TTL, and `data`
@@ -38,7 +39,7 @@
      `struct rrcache_chapters`, which holds chapters that were taken from a shelf.
      `rrcache_free_offers` frees the offers, and `rrcache_free_chapters` frees the chapters.
    - Initialize a `struct rrcache_name` to zeros too. The struct then holds no name. After that,
-     only the library may write to the struct. The caller may copy the struct.
+     only the library may write to the struct, but the caller may copy it.
 
    Locking
    - Hold the lock of a shelf during every call that takes the handle of this shelf. Five calls are
@@ -60,10 +61,11 @@
      other threads may use or free the shelf. Only one call at a time may use a handle of chapters.
    - `rrcache_fault`, `rrcache_make_name`, `rrcache_compose_response` and `rrcache_tell_octets` take
      no handle and need no lock.
-   - No call waits, sleeps or takes a lock, unless malloc, realloc, free or the sink of the caller
-     does so. Only `rrcache_write_line` and `rrcache_write_chapter` call a function of the caller:
-     the sink that they are given. Do not call a function of the library in a signal handler or,
-     after a process with several threads has called fork, in the child process.
+   - No call waits, sleeps or takes a lock, unless malloc, realloc, free or the caller's sink does
+     so. Only `rrcache_write_line` and `rrcache_write_chapter` call a function of the caller: the
+     sink that the caller passes. Do not call a function of the library in a signal handler. If a
+     process with several threads calls fork, do not call a function of the library in the child
+     process.
 
    Memory
    - The library allocates memory only with malloc and realloc, and frees it only with free. If an
@@ -77,12 +79,11 @@
 
    Errors
    - Every function returns a status, except `rrcache_version`, `rrcache_status_text` and helpers
-     such as `rrcache_room`. RRCACHE_DONE is 0, and every other status is an error. No error ends
-     the process.
-   - For the functions of this header, 0 is not a valid value of a field for a purpose, mode, class,
-     trust, kind, section, seed or limit. So a call that uses such a field returns an error if the
-     caller forgot to set the field. For the functions of rrcache.h, a seed or a limit of 0 means
-     the default.
+     such as `rrcache_room`. RRCACHE_DONE is 0, and every other status is an error. No error
+     terminates the process.
+   - For the functions of this header, 0 is not a valid purpose, mode, class, trust, kind, section,
+     seed or limit. So if the caller forgot to set such a field, a call that uses the field returns
+     an error. For the functions of rrcache.h, a seed or a limit of 0 means the default.
    - If a call fails, the history of the shelf and the replies that the shelf gives are unchanged.
      If the shelf records, the call may still have closed a full chapter, which changes neither the
      history nor the replies. Five functions are exceptions, because they may have done part of
@@ -94,9 +95,10 @@
      or `rrcache_write_line` fails, it may have written the beginning of the text.
    - If `rrcache_take_chapters` fails, the chapters stay in the shelf. If `rrcache_stop_recording`
      fails, the shelf continues to record.
-   - If a call fails, its outputs are unmodified, except `counts` and `swept` and, after
-     RRCACHE_SMALL, `told`, `name` and `size`. After RRCACHE_NULL, RRCACHE_OVERLAP, RRCACHE_NO_SHELF
-     and RRCACHE_NO_OFFERS, `counts` and `swept` are unmodified too.
+   - If a call fails, its outputs are unmodified, with two exceptions. A call that returns
+     RRCACHE_SMALL writes to `told`, `name` and `size`. A call that has `counts` or `swept` as an
+     output writes to this output, unless the error is RRCACHE_NULL, RRCACHE_OVERLAP,
+     RRCACHE_NO_SHELF or RRCACHE_NO_OFFERS.
 
    A message about names in several shelves
    - A response may have data of names that are not in the shelf of the question's name, such as the
@@ -104,14 +106,14 @@
      with several shelves reads the message once, with `rrcache_read_response` and without a lock.
      This call reports which shelves the message concerns. For each of these shelves, the resolver
      takes the lock of the shelf and calls `rrcache_offer_read` with the number of the shelf,
-     counted from 0. Each call offers only the data of names in one shelf, and together the calls
-     offer everything that was read. The data of each name are then in the shelf that
-     `rrcache_make_name` determines for this name with the same `struct rrcache_parts`. A shelf that
-     the message does not concern gets no event.
-   - `rrcache_offer_part_unchecked` reads a message and, in the same call, offers to one shelf the
-     data of the names in this shelf. For several shelves, several calls are needed, and each of
-     them reads the whole message under the lock of its shelf. So use this function only if data are
-     to be offered to a single shelf.
+     counted from 0. Each call offers only the data of names in one shelf, but together the calls
+     offer everything that `rrcache_read_response` read. The data of each name are then in the shelf
+     that `rrcache_make_name` determines for this name with the same `struct rrcache_parts`. No
+     event is added to the history of a shelf that the message does not concern.
+   - `rrcache_offer_part_unchecked` reads a message, and offers the data of the names in one shelf
+     to that shelf. For several shelves, the caller needs one call for each shelf, and each call
+     reads the whole message under the lock of its shelf. So use this function only to offer data to
+     a single shelf.
    - To follow a CNAME chain from shelf to shelf, call `rrcache_ask_alias` for each name of the
      chain, under the lock of that name's shelf. The caller must limit the number of CNAME records
      that it follows. This limit also ends loops. Each RRset of the chain has its own TTL.
@@ -119,25 +121,25 @@
      only if the cache has a single shelf.
 
    What is stored
-   - `rrcache_read_response` reads from a message only the data that are relevant to the query that
-     the resolver sent, and rejects a message with another identifier or question. Use this function
-     for all messages from servers. The caller must check the address and port that a message came
-     from.
+   - `rrcache_read_response` reads from a message only the data that are relevant to the resolver's
+     query. The call rejects a message whose identifier or question differs from that of the query.
+     Use this function for all messages from servers. The caller must check the address and port
+     that a message came from.
    - A resolver that parses responses itself passes the parsed RRsets, with their sections, to
      `rrcache_compose_response`. This function writes them as a message, which the resolver then
      reads like any other message.
-   - A function whose name ends in `_unchecked` takes from a message all data that are in bailiwick:
+   - A function whose name ends in `_unchecked` reads from a message all data that are in bailiwick:
      data of names at or below the zone whose servers were queried. Such a function does not compare
      the message with a query. The caller must check the addresses and ports, the identifier and the
      question of the message before it calls such a function.
-   - A truncated message (TC, the bit 0x02 of the third octet, is set) offers nothing (RFC 2181
-     section 9). If the message can be read, the call that reads it returns RRCACHE_DONE, all fields
-     of `counts` are 0, no event is written, and `rrcache_tell_response` reports that TC is set. If
-     the message ends inside a record, the call returns RRCACHE_BAD_MESSAGE. In either case, the
-     caller must send the query again over TCP. The call also returns RRCACHE_BAD_MESSAGE for a
-     message that ends inside a record and has TC clear, so the caller must check TC before it
-     treats this error as a failure of the server. Over TCP, a length of two octets precedes each
-     message: do not pass these two octets to the library.
+   - A truncated message, in which TC (the bit 0x02 of the third octet) is set, offers nothing (RFC
+     2181 section 9). If the message can be read, the call that reads it returns RRCACHE_DONE, all
+     fields of `counts` are 0, no event is written, and `rrcache_tell_response` reports that TC is
+     set. If the message ends inside a record, the call returns RRCACHE_BAD_MESSAGE. In either case,
+     the caller must send the query again over TCP. A message that ends inside a record but has TC
+     clear causes the same error. So the caller must check TC before it treats RRCACHE_BAD_MESSAGE
+     as a failure of the server. Over TCP, a length of two octets precedes each message: do not pass
+     these two octets to the library.
    - A message also offers nothing if its opcode is not QUERY, if the class of its question is not
      kept, or if the name of its question is out of bailiwick.
    - The kept classes are IN, CH and HS (RFC 1035 section 3.2.4). docs/RULES.md lists the kept
@@ -149,8 +151,8 @@
      if unexpired RRsets of higher rank are cached for the name.
    - Even if a message that answers its question has just been offered, the next ask for this
      question may be a miss. Apart from evictions, there are six possible causes: the answer is
-     behind a CNAME record or a CNAME chain that is too long; the TTL is 0; the type is not kept;
-     the records of an RRset have different TTLs, AA is clear and `lowest_ttl` is not set; a
+     behind a CNAME record, or behind a CNAME chain that is too long; the TTL is 0; the type is not
+     kept; the records of an RRset have different TTLs, AA is clear and `lowest_ttl` is not set; a
      negative response has no SOA record; or the RRset is not relevant. `rrcache_tell_response`
      still returns the kind of the response, and `rrcache_tell_offer` returns even an RRset with TTL
      0. The caller answers the waiting client from the output of these calls. The caller has to read
@@ -162,15 +164,15 @@
    - A message from which nothing is stored does not change a cached RRset either, unless an offer
      of the message has TTL 0 and clears the RRset. The unchanged RRset may still be returned, even
      stale. But RFC 8767 section 4 counts the RRset as refreshed if the message is an authoritative
-     response (AA set) with RCODE NOERROR or NXDOMAIN. After such a message, the resolver clears the
-     RRset: it calls `rrcache_offer_set` with `ttl` 0.
+     response (AA set) with RCODE NOERROR or NXDOMAIN. So after such a message, the resolver calls
+     `rrcache_offer_set` with `ttl` 0 to clear the RRset.
    - A response with an RCODE other than NOERROR and NXDOMAIN offers a failure of its question, even
-     if the RCODE is FORMERR, NOTIMP or REFUSED. Once the failure is stored, the reply to the
-     question is RRCACHE_FAILED if no cached data may answer, until the failure expires or a later
-     entry for the question is stored. So offer such a response only when the resolver has no other
-     server left to query, and no retry without EDNS left to make.
-   - A message may have more new keys than the shelf has room for. The later keys of the message
-     then evict some of its earlier keys.
+     if the RCODE is FORMERR, NOTIMP or REFUSED. If no cached data may answer the question, the
+     reply is then RRCACHE_FAILED until the failure expires or a later entry for the question is
+     stored. So offer such a response only when the resolver has no other server left to query, and
+     no retry without EDNS left to make.
+   - If a message has more new keys than fit in the shelf, the later keys of the message evict some
+     of its earlier keys.
 
    Timestamps
    - Timestamps (`moment`) are numbers of seconds, at most 2^40. The caller supplies them, because
@@ -192,26 +194,26 @@
      `max_stale` seconds after it has expired.
 
    History and chapters
-   - The history of a shelf is a log of events. Each ask, sweep or offer that is made without an
-     error is one event, even an offer that is outranked. A message causes one event for each offer
-     that is made from it. A trim causes one or two events for each key that it removes.
+   - The history of a shelf is a log of events. Each ask, sweep or offer that returns no error is
+     one event, even if the offer is outranked. A message causes one event for each offer that is
+     made from it. A trim causes one or two events for each key that it removes.
    - A new shelf does not record its history. While a shelf does not record, its events are numbered
      but use no memory, no chapter becomes full or is closed, and there are no chapters to drop.
      `rrcache_record` starts recording: from then on, the shelf keeps events in memory.
      `rrcache_stop_recording` stops recording and returns the recorded chapters.
      `rrcache_stop_and_drop` stops recording and frees the recorded chapters. No reply depends on
-     whether a shelf records. Except for what is said about numbers, the following points about
+     whether a shelf records. Except for the statements about numbers, the following points about
      events and chapters apply only while a shelf records.
    - An event uses 96 octets, plus the octets of its names and data.
-   - A chapter is a segment of the history, and new events go into the open chapter. If a call has
-     to write an event and the open chapter is full, the call first closes that chapter and opens
-     the next one, under the lock. A call that offers a message may do this before each of the
-     offers. No reply depends on where chapters end.
+   - A chapter is a segment of the history, and new events are added to the open chapter. If a call
+     has to write an event and the open chapter is full, the call first closes that chapter and
+     opens the next one, under the lock of the shelf. A call that offers a message may do so before
+     each of its offers. No reply depends on where chapters end.
    - The time to close a chapter grows with the number of keys that the shelf holds, and with the
      number of keys that it held when the chapter began. The call that closes the chapter writes 16
      octets for each key, and copies an entry of 56 octets for each key that has been used since the
-     chapter began. Instead, the call copies the entries of all keys if, during the chapter, there
-     were more uses and removals of keys than there were keys when the chapter began.
+     chapter began. If the uses and removals of keys during the chapter outnumber the keys that the
+     shelf held when the chapter began, the call copies the entries of all keys instead.
      `rrcache_record`, which ends the open chapter, always copies the entries of all keys. Names,
      data and events are not copied. A good value of `chapter`, the maximum number of events in a
      chapter, is about the number of keys in the shelf.
@@ -230,10 +232,10 @@
      recording is 2 or higher.
    - Event numbers are used up if the next event would have the number 2^62, even if the shelf does
      not record. Chapter numbers are used up if the open chapter is full and has the number 2^62.
-     From then on, each call that has to write an event returns RRCACHE_HISTORY_FULL, even if
-     chapters are dropped. `rrcache_peek` still returns replies. The resolver then frees the shelf
-     and makes a new, empty one; with `struct rrcache`, the resolver closes the cache and opens a
-     new one. At 10^9 events a second, event numbers are used up after 146 years.
+     Once numbers are used up, each call that has to write an event returns RRCACHE_HISTORY_FULL,
+     even if chapters are dropped, but `rrcache_peek` still returns replies. The resolver then frees
+     the shelf and makes a new, empty one; with `struct rrcache`, the resolver closes the cache and
+     opens a new one. At 10^9 events a second, event numbers are used up after 146 years.
 
    Which error is returned
    - If several errors apply, the call returns the first one in this list: RRCACHE_NULL;
@@ -244,7 +246,7 @@
      RRCACHE_BAD_DATA; RRCACHE_OTHER_SEED; RRCACHE_WRONG_BODY; RRCACHE_WIDE; RRCACHE_SMALL;
      RRCACHE_HISTORY_FULL; RRCACHE_MOMENT_TOO_LARGE.
    - If malloc fails while a call checks for these errors, the call returns RRCACHE_MEMORY, even if
-     one of the errors for which it has not yet checked also applies.
+     an error for which the call has not yet checked also applies.
    - A call that offers a message checks for RRCACHE_HISTORY_FULL and RRCACHE_MOMENT_TOO_LARGE only
      when it makes an offer. If the message has no offers, the call returns RRCACHE_DONE, regardless
      of the timestamp and even if numbers are used up.
@@ -263,15 +265,16 @@
 
    The names of the exported functions that this header declares begin with `rrc_`. These functions
    require pointers that are not null, and buffers that do not overlap. The inline functions below
-   check these conditions and then call an exported function. Among the functions that a resolver
-   calls, only `rrcache_compose_response`, `rrcache_tell_octets` and `rrcache_status_text` call no
-   exported function. An inline function returns RRCACHE_NULL if a required pointer is null. It
+   check these conditions and then call an exported function. Three functions that a resolver calls
+   do not call an exported function: `rrcache_compose_response`, `rrcache_tell_octets` and
+   `rrcache_status_text`. An inline function returns RRCACHE_NULL if a required pointer is null. It
    returns RRCACHE_OVERLAP if anything that it writes, including the handle, overlaps another output
    or an input. There is one exception: a struct that contains pointers, such as
    `struct rrcache_response`, may overlap an output, and so may a struct that is passed together
    with such a struct. The function reads these structs before it writes anything. Inputs may
    overlap each other. The library cannot check whether a handle or a name was initialized to zeros,
-   whether two threads use one handle, or whether a buffer is as large as its size says. */
+   whether two threads use one handle at the same time, or whether a buffer is as large as the size
+   that is passed with the buffer. */
 #ifndef RRCACHE_SHELF_H
 #define RRCACHE_SHELF_H
 
@@ -279,8 +282,8 @@
 #include <stddef.h>
 #include <stdint.h>
 
-/* Initializes a struct in an inline function to zeros. In C++ this is {}, because C++ compilers
-   warn that {0} leaves out fields. */
+/* Initializes a struct in an inline function to zeros. In C++, the initializer is {}, because C++
+   compilers warn that {0} leaves out fields. */
 /* clang-format off */
 #ifdef __cplusplus
 #define RRCACHE_ZEROS {}
@@ -330,15 +333,15 @@ enum rrcache_status {
     RRCACHE_WIDE = 15,            /* a record of the reply has more than 65,535 octets of rdata,
                                      which is too many for any message, or all records of the reply
                                      together have at least 2^64 octets of rdata */
-    RRCACHE_SMALL = 16,           /* the buffer is too small: `told` or `size` has the required
+    RRCACHE_SMALL = 16,           /* the buffer is too small: `told` or `size` reports the required
                                      size, and no event was written */
     RRCACHE_NULL = 17,            /* a required pointer is null (never returned by `rrc_`
                                      functions) */
     RRCACHE_NO_OFFERS = 18,       /* the handle holds no offers, or none with this number */
     RRCACHE_HAS_OFFERS = 19,      /* the handle already holds offers */
-    RRCACHE_OTHER_QUERY = 20,     /* the identifier or the question of the message is not that of
-                                     the query, or the message is itself a query or too short for a
-                                     header */
+    RRCACHE_OTHER_QUERY = 20,     /* the identifier or the question of the message differs from that
+                                     of the query, or the message is itself a query or too short for
+                                     a header */
     RRCACHE_NO_CHAPTERS = 21,     /* the handle holds no chapters */
     RRCACHE_HAS_CHAPTERS = 22,    /* the handle already holds chapters */
     RRCACHE_NO_LINE = 23,         /* there is no such chapter, or the chapter has no such line */
@@ -365,10 +368,10 @@ enum rrcache_kind {
     RRCACHE_NODATA = 3,   /* the name has no data of the type (RFC 2308 section 2.2) */
     RRCACHE_NXDOMAIN = 4, /* the name does not exist (RFC 2308 section 2.1) */
     RRCACHE_MISS = 5,     /* the cache holds nothing that may answer, and no recent failure */
-    RRCACHE_FAILED = 6    /* the cache holds nothing that may answer, and it holds a recent failure:
-                             a failure that is unexpired, and that was stored later than all other
-                             entries for the question. A resolver answers with SERVFAIL until
-                             `retry_from` (RFC 9520). As the kind of an entry, any failure */
+    RRCACHE_FAILED = 6    /* the cache holds nothing that may answer, but holds a recent failure: an
+                             unexpired failure that was stored later than all other entries for the
+                             question. A resolver answers with SERVFAIL until `retry_from` (RFC
+                             9520). As the kind of an entry, any failure */
 };
 
 /* The classes whose data are kept (RFC 1035 section 3.2.4). */
@@ -384,8 +387,8 @@ enum rrcache_purpose { RRCACHE_ANYTHING = 1, RRCACHE_QUESTION = 2 };
    with or without a failure. */
 enum rrcache_mode { RRCACHE_NO_STALE = 1, RRCACHE_STALE_IF_FAILED = 2, RRCACHE_STALE_NOW = 3 };
 
-/* The rank of data (RFC 2181 section 5.4.1), from low to high. A negative answer has rank 4 if AA
-   is set and it is about the name of the question itself, and otherwise rank 2. */
+/* The rank of data (RFC 2181 section 5.4.1), from low to high. A negative answer about the name of
+   the question itself has rank 4 if AA is set. Any other negative answer has rank 2. */
 enum rrcache_trust {
     RRCACHE_ADDITIONAL = 1,               /* data of the additional section, or of the authority
                                              section of a non-authoritative response */
@@ -410,9 +413,10 @@ enum rrcache_outcome { RRCACHE_KEPT = 1, RRCACHE_CLEARED = 2, RRCACHE_OUTRANKED 
 
 /* The kind of a response from a server of a zone: what the response means for its question (RFC
    1034 section 5.3.3). In the comments below, *the type* is the type of the question. *The name* is
-   the name of the question or, if CNAME records of the response lead from there to another name,
-   that other name. At most 16 CNAME records are followed, and only as long as their owners are in
-   bailiwick. For a question of type CNAME or ANY, no CNAME record is followed. */
+   the name of the question. If CNAME records of the response lead from there to another name, *the
+   name* is that other name instead. At most 16 CNAME records are followed, and only as long as
+   their owners are in bailiwick. For a question of type CNAME or ANY, no CNAME record is
+   followed. */
 enum rrcache_response_kind {
     RRCACHE_RESPONSE_ANSWER = 1,       /* the response has data of the type for the name */
     RRCACHE_RESPONSE_UNEQUAL_TTLS = 2, /* the response has data of the type for the name, but these
@@ -428,21 +432,22 @@ enum rrcache_response_kind {
     RRCACHE_RESPONSE_REFERRAL = 5, /* AA is clear, and the response has NS records of a zone that is
                                       below the zone of the server and contains the name (RFC 1034
                                       section 4.3.2) */
-    RRCACHE_RESPONSE_ALIAS = 6,    /* a CNAME chain leads to a name that is out of bailiwick, or for
-                                      which the response neither has data nor denies that there are
-                                      data: send a query for that name */
+    RRCACHE_RESPONSE_ALIAS = 6,    /* a CNAME chain leads to a name that is out of bailiwick, or to
+                                      a name for which the response neither has data nor denies that
+                                      there are data: send a query for the name */
     RRCACHE_RESPONSE_FAILURE = 7,  /* the RCODE is neither NOERROR nor NXDOMAIN */
-    RRCACHE_RESPONSE_UNUSABLE = 8  /* none of the kinds above: TC is set, the opcode is not QUERY,
-                                      the class of the question is not kept, the name of the
-                                      question is out of bailiwick, the CNAME chain does not end,
-                                      RCODE is NXDOMAIN although the response has a record of the
-                                      name, or the response neither has data, nor denies that there
-                                      are data, nor is a referral; in this last case, perhaps the
-                                      server does not serve the zone. A response with AA set is not
-                                      a referral, even if it has NS records below the zone. Data of
-                                      a type that is not kept are skipped, so a NOERROR response to
-                                      a question of such a type, except ANY, has this kind unless it
-                                      is a referral or an alias */
+    RRCACHE_RESPONSE_UNUSABLE = 8  /* none of the kinds above. A response has this kind if TC is
+                                      set, the opcode is not QUERY, the class of the question is not
+                                      kept, the name of the question is out of bailiwick, the CNAME
+                                      chain is a loop or has more than 16 records, or RCODE is
+                                      NXDOMAIN although the answer section has a record of the name.
+                                      A response that neither has data, nor denies that there are
+                                      data, nor is a referral has this kind too; perhaps the server
+                                      does not serve the zone. A response with AA set is not a
+                                      referral, even if it has NS records below the zone. Data of a
+                                      type that is not kept are skipped. So if the question is of
+                                      such a type, except ANY, a NOERROR response has this kind
+                                      unless the response is a referral or an alias */
 };
 
 /* The reason why octets cannot be read as a response (`rrcache_fault`). */
@@ -480,10 +485,10 @@ struct rrcache_chapters {
 };
 
 /* A name in the form that look-ups in shelves take: folded to lower case, and hashed. Initialize
-   the struct to zeros; `rrcache_make_name` fills it. `part` is the number of the shelf of the name,
+   the struct to zeros; `rrcache_make_name` fills it. `part` is the number of the name's shelf,
    counted from 0. `hash` is the 64-bit SipHash-1-3 of the folded name under the seed, and the
-   caller may use this hash in its own tables. The caller may copy the struct, which is valid as
-   long as the seed and the number of parts are in use. */
+   caller may use this hash in its own tables. The caller may copy the struct. The struct and its
+   copies are valid as long as the caller uses the same seed and the same number of parts. */
 struct rrcache_name {
     uint64_t hash;
     uint64_t part;
@@ -496,7 +501,7 @@ struct rrcache_name {
 /* How names are divided among shelves: `count` is the number of shelves, 1 to 64, and `seed` is the
    seed in the rules of these shelves. The library hashes names with SipHash-1-3 under this seed,
    and the upper 32 bits of the hash determine the shelf. Under another seed, a name may belong to
-   another shelf, in which the data of the name would not be found. */
+   another shelf, so a look-up would not find the data of the name. */
 struct rrcache_parts {
     uint64_t count;
     uint8_t seed[16];
@@ -522,31 +527,32 @@ struct rrcache_question {
     uint32_t mode;    /* enum rrcache_mode */
 };
 
-/* The entry of a key. All fields are 0 if nothing is stored, and in replies with RRCACHE_MISS or
+/* The entry of a key. All fields are 0 if nothing is stored, and in a reply of kind RRCACHE_MISS or
    RRCACHE_FAILED. An auditor uses `number` to find, in the history of the shelf, the event that
    stored the entry. Two entries of one shelf never have the same `number`, but entries of two
-   shelves may. So a caller that keeps its own data about entries finds these data by the shelf and
-   `number`, or by the name and `number`, because all entries of a name are in one shelf. */
+   shelves may. So if a caller keeps its own data about entries, it looks these data up by the shelf
+   and `number`, or by the name and `number`. The name is enough, because all entries of a name are
+   in one shelf. */
 struct rrcache_entry {
     uint32_t kind;   /* enum rrcache_kind, or 0 if nothing is stored */
     uint32_t trust;  /* enum rrcache_trust; 0 for a failure */
-    uint32_t ttl;    /* the TTL that was stored: for data from a message at most the cap, and
+    uint32_t ttl;    /* the TTL that was stored: at most the cap for data from a message, and
                         otherwise the TTL that was offered. To prefetch, a resolver renews an entry
                         if a client asks for it shortly before `ttl` seconds have passed since
                         `moment` */
     uint64_t moment; /* the timestamp of the offer that was stored */
     uint64_t number; /* the number of the event that stored the entry; no other entry of the shelf
                         has this number */
-    uint64_t age;    /* not a time: the number of uses of keys since the last use of this key, so at
-                        most that many other keys have been used since then. A key is used when an
-                        entry is stored under it, and when its entry answers an ask. In a reply,
-                        `age` is the number before the call: an ask then moves the entry to the
-                        front of the LRU order, and a peek does not. If the entry is already at the
-                        front (`age` 0), an ask does not count as a use */
+    uint64_t age;    /* not a time, but the number of uses of keys since the last use of this key.
+                        The number of other keys used since then is at most `age`. A key is used
+                        when an entry is stored under it, and when its entry answers an ask. In a
+                        reply, `age` is the number before the call. An ask then moves the entry to
+                        the front of the LRU order, but a peek does not. If the entry is already at
+                        the front (`age` 0), an ask does not count as a use */
 };
 
 /* A reply. The first `owner_size` octets of the buffer are the owner in wire form, in the spelling
-   in which it was received. The next `data_size` octets are the rdata of each record of the RRset,
+   in which it was received. The next `data_size` octets are the rdata of all records of the RRset,
    or of the SOA record of a negative answer. A length of two octets, high octet first, precedes the
    rdata of each record. A reply of kind RRCACHE_MISS or RRCACHE_FAILED has neither an owner nor
    rdata. */
@@ -570,8 +576,8 @@ struct rrcache_told {
 /* What a response says apart from its offers. */
 struct rrcache_summary {
     uint32_t kind; /* enum rrcache_response_kind */
-    uint8_t rcode; /* the RCODE of the header, 0 to 15; the upper bits that an OPT record may add to
-                      it are not read */
+    uint8_t rcode; /* the RCODE of the header, 0 to 15; the upper bits that an OPT record may add
+                      are not read */
     bool aa;
     bool tc;
 };
@@ -606,8 +612,8 @@ struct rrcache_limits {
         604800, 10800, 30                                                                          \
     }
 
-/* The timestamp at which to sweep. `most` is for `rrcache_sweep_some`, which stops, at the latest,
-   when it has removed at least `most` keys or made `most` sweeps. */
+/* The timestamp at which to sweep. `rrcache_sweep` ignores `most`. `rrcache_sweep_some` stops, at
+   the latest, when it has removed `most` or more keys, or has made `most` sweeps. */
 struct rrcache_sweep_at {
     uint64_t moment;
     uint64_t line;
@@ -670,15 +676,16 @@ struct rrcache_line {
     uint64_t written;
 };
 
-/* ---- Arguments of functions. The field after each pointer to octets has the number of these
+/* ---- Arguments of functions. The field after each pointer to octets is the number of these
    octets. Use designated initializers for these structs: the fields that you leave out are then 0.
 
    All structs of this header and of rrcache.h are part of the ABI of the library, because exported
    functions read or write them. These structs keep their size and their fields in all versions with
-   the same soname. The only exception is `struct rrcache_parsed_response`: only an inline function
-   reads it, so a later version of this header may add fields to it. Exported functions of rrcache.h
-   read the other structs below. The inline functions of this header pass only the fields of these
-   arguments to the library, never the structs themselves. */
+   the same soname. There is one exception: only an inline function reads
+   `struct rrcache_parsed_response`, so a later version of this header may add fields to this
+   struct. Exported functions of rrcache.h read the other structs below, but the inline functions of
+   this header pass only the fields of these structs to the library, never the structs
+   themselves. */
 
 /* The query that a response has to answer. */
 struct rrcache_query {
@@ -687,9 +694,9 @@ struct rrcache_query {
     uint16_t id;
     uint16_t rtype;
     uint16_t rclass; /* enum rrcache_class */
-    bool with_case;  /* whether a response has to repeat the letters of the name in the same case.
-                        If a resolver chooses the case of each letter at random ("0x20") and sets
-                        this field, it is harder for an attacker to forge a response */
+    bool with_case;  /* whether a response has to repeat the letters of the name in the same case. A
+                        resolver that chooses the case of each letter at random ("0x20") sets this
+                        field, so that an attacker also has to guess the case of each letter */
 };
 
 /* A response: its octets, without the two octets of length that precede it over TCP; the zone whose
@@ -701,10 +708,10 @@ struct rrcache_response {
     size_t zone_size;
     uint64_t moment;
     struct rrcache_limits limits;
-    bool lowest_ttl;    /* for a response with AA clear: whether an RRset whose records have
-                           different TTLs is offered, with the lowest of these TTLs. Other resolvers
-                           store such an RRset with this TTL. If this field is not set, such an
-                           RRset is left out (RFC 2181 section 5.2) */
+    bool lowest_ttl;    /* for a response with AA clear: whether to offer an RRset whose records
+                           have different TTLs, with the lowest of these TTLs. Other resolvers store
+                           such an RRset with this TTL. If this field is not set, such an RRset is
+                           left out (RFC 2181 section 5.2) */
     bool clears_denied; /* whether an authoritative NXDOMAIN clears the data of the denied name for
                            the types A, AAAA and CNAME and for the type of the question. If this
                            field is not set, data that were stored before the NXDOMAIN may answer
@@ -783,15 +790,15 @@ struct rrcache_failure {
     uint64_t line;
 };
 
-/* A callback that gets the text of chapters, piece by piece. The callback has to process all octets
-   that it gets, and returns 0 to continue or nonzero to stop. `state` is the pointer that the
-   caller passed together with the callback. */
+/* A callback that receives the text of chapters, piece by piece. The callback has to process all
+   octets that it receives, and returns 0 to continue or nonzero to stop. `state` is the pointer
+   that the caller passed together with the callback. */
 typedef int (*rrcache_sink)(void *state, const void *octets, size_t size);
 
 /* The numbers of octets that `rrcache_sizes` adds up. RRCACHE_ENTRY_OCTETS is for a key, with its
    places in the LRU order, the map of keys and the expiry queue. RRCACHE_VALUE_OCTETS is for a
-   name, the rdata of a record, or a list of several records. This number includes room for
-   RRCACHE_INLINE_OCTETS octets of the name or rdata. Longer names, longer rdata, and lists are in a
+   name, the rdata of a record, or a list of several records. RRCACHE_VALUE_OCTETS includes room for
+   RRCACHE_INLINE_OCTETS octets of the name or rdata. Longer names, longer rdata, and lists occupy a
    separate block of memory, for which RRCACHE_BLOCK_OCTETS is added. RRCACHE_SHARED_OCTETS is for
    the reference count of a name or of the data of a key, and for the block of this reference
    count. */
@@ -803,7 +810,7 @@ enum {
     RRCACHE_SHARED_OCTETS = 32
 };
 
-/* The maximum number of octets that a sink gets in one call. */
+/* The maximum number of octets that a sink receives in one call. */
 enum { RRCACHE_PIECE_OCTETS = 4096 };
 
 /* The maximum number of octets in a message (RFC 1035 section 4.2.2). */
@@ -1039,10 +1046,10 @@ static inline bool rrcache_holds(const struct rrcache_shelf *shelf, const void *
     return rrcache_overlap(shelf, sizeof *shelf, octets, size);
 }
 
-/* Makes an empty shelf in a handle that holds no shelf. The shelf records nothing until
-   `rrcache_record` is called, and until then no chapter becomes full. The library hashes names with
-   SipHash-1-3 under the seed in the rules. The seed must be random and secret. Otherwise an
-   attacker can slow calls down by choosing names with similar hashes.
+/* Makes an empty shelf in a handle that holds no shelf. Until the caller calls `rrcache_record`,
+   the shelf records nothing, and no chapter becomes full. The library hashes names with SipHash-1-3
+   under the seed in the rules. The seed must be random and secret; otherwise, an attacker can slow
+   calls down by choosing names with similar hashes.
 
    Returns RRCACHE_HAS_SHELF if the handle already holds a shelf, even if the rules are not valid.
    The shelf in the handle is then unchanged. Returns RRCACHE_BAD_RULES if a number in the rules is
@@ -1067,10 +1074,11 @@ static inline enum rrcache_status rrcache_free(struct rrcache_shelf *shelf)
 }
 
 /* Folds and hashes a name in wire form, and determines the part of the name, counted from 0. The
-   call writes the result to `name`. If the call fails, `name` is unmodified. Calls that look up a
-   name in a shelf take this result. The call never allocates, and needs no lock. Returns
-   RRCACHE_BAD_RULES if `parts->count` is not 1 to 64, RRCACHE_BAD_SEED if the seed is all zeros,
-   and RRCACHE_BAD_NAME if `octets` are not the wire form of a name. */
+   call writes the result to `name`, or leaves `name` unmodified if the call fails. The caller
+   passes the result to the calls that look up a name in a shelf. `rrcache_make_name` never
+   allocates, and needs no lock. Returns RRCACHE_BAD_RULES if `parts->count` is not in the range 1
+   to 64, RRCACHE_BAD_SEED if the seed is all zeros, and RRCACHE_BAD_NAME if `octets` are not the
+   wire form of a name. */
 static inline enum rrcache_status rrcache_make_name(struct rrcache_name *name,
                                                     const uint8_t *octets, size_t size,
                                                     const struct rrcache_parts *parts)
@@ -1084,7 +1092,7 @@ static inline enum rrcache_status rrcache_make_name(struct rrcache_name *name,
 }
 
 /* Starts to record the history of the shelf. The open chapter ends unrecorded, and the next chapter
-   begins with the entries of the shelf. The call takes as much memory and time as closing a chapter
+   begins with the entries of the shelf. The call uses as much memory and time as closing a chapter
    in which every key was used. Replies do not change. If the shelf already records, the call does
    nothing. Returns RRCACHE_HISTORY_FULL if the open chapter has the number 2^62. If the call fails,
    the shelf is unchanged. Needs the write lock. */
@@ -1145,9 +1153,9 @@ static inline bool rrcache_is_whole(const struct rrcache_parsed_set *set)
     return at == set->data_size;
 }
 
-/* Checks the pointers that `rrcache_compose_response` is given. Returns RRCACHE_NULL if a required
-   pointer is null, and RRCACHE_OVERLAP if one of the two outputs overlaps the other, or overlaps
-   octets or an array that the call reads. */
+/* Checks the pointers that the caller passes to `rrcache_compose_response`. Returns RRCACHE_NULL if
+   a required pointer is null, and RRCACHE_OVERLAP if one of the two outputs overlaps the other, or
+   overlaps octets or an array that the call reads. */
 static inline enum rrcache_status rrcache_can_compose(const struct rrcache_query *query,
                                                       const struct rrcache_parsed_response *parsed,
                                                       const uint8_t *buffer, size_t room,
@@ -1224,8 +1232,9 @@ static inline void rrcache_put(struct rrcache_draft *draft, const uint8_t *octet
 }
 
 /* Appends an owner. If the owner is already at the offset `place`, and a compression pointer can
-   lead there (RFC 1035 section 4.1.4), the call appends this pointer, and otherwise the whole name.
-   `place` is 0 if the owner has not been written yet. Returns the offset of the owner. */
+   lead there (RFC 1035 section 4.1.4), the call appends such a pointer. Otherwise, the call appends
+   the whole name. `place` is 0 if the owner has not been written yet. Returns the offset of the
+   owner. */
 static inline size_t rrcache_put_owner(struct rrcache_draft *draft,
                                        const struct rrcache_parsed_set *set, size_t place)
 {
@@ -1239,10 +1248,10 @@ static inline size_t rrcache_put_owner(struct rrcache_draft *draft,
     return stands ? place : here;
 }
 
-/* Appends the records of an RRset, and returns their number. Records after the first have a
-   compression pointer as their owner, if a pointer can lead to the owner of the first record. If
-   the owner is the name of the question, with letters in the same case, the first record has a
-   pointer too, to the name in the question. */
+/* Appends the records of an RRset, and returns their number. If a compression pointer can lead to
+   the owner of the first record, the records after the first have such a pointer as their owner. If
+   the owner is the name of the question, with letters in the same case, the owner of the first
+   record is a pointer too, to the name in the question. */
 static inline size_t rrcache_put_set(struct rrcache_draft *draft, const struct rrcache_query *query,
                                      const struct rrcache_parsed_set *set)
 {
@@ -1307,24 +1316,24 @@ static inline size_t rrcache_put_response(const struct rrcache_query *query,
 }
 
 /* Makes a message (RFC 1035 section 4) from a response that a resolver parsed itself. The call
-   writes the message to the front of a buffer, and the number of its octets to `size`. The caller
+   writes the message to the front of a buffer, and the size of the message to `size`. The caller
    then passes the message to `rrcache_read_response`, with the same query, like any other response.
    So the rules on relevance, ranks, negative answers, referrals and failures apply to the parsed
-   response too. The call never allocates and needs no lock, and its time is linear in the number of
-   octets of its arguments.
+   response too. `rrcache_compose_response` never allocates and needs no lock, and its time is
+   linear in the number of octets of its arguments.
 
-   The caller must first compare the response with its query (RFC 5452 section 9.1): QR, the opcode,
-   the identifier and the question. If `with_case` of the query is set, the caller must also compare
-   the case of the letters in the name. The new message has QR set, the opcode QUERY, RD clear, and
-   the identifier and question of the query, even if the response had other values. So the new
-   message never causes RRCACHE_OTHER_QUERY.
+   Before this call, the caller must compare the response with the query (RFC 5452 section 9.1): QR,
+   the opcode, the identifier and the question. If `with_case` of the query is set, the caller must
+   also compare the case of the letters in the name. The new message has QR set, the opcode QUERY,
+   RD clear, and the identifier and question of the query, even if the response had other values. So
+   the new message never causes RRCACHE_OTHER_QUERY.
 
    In the message, the RRsets of a section are in the order of the array `sets`, and the records of
    an RRset are in the order of its data. If the records of an RRset have different TTLs, pass one
    `struct rrcache_parsed_set` for each record. When the message is read, all sets with the same
    owner, type and class in a section become one RRset. Records that cause no offer, such as an OPT
-   record, may be left out. Data that do not match the layout of their type are detected when the
-   message is read (RRCACHE_BAD_MESSAGE). Names in the data must not have compression pointers,
+   record, may be left out. If data do not match the layout of their type, the call that reads the
+   message returns RRCACHE_BAD_MESSAGE. Names in the data must not have compression pointers,
    because a pointer would lead to a wrong offset in the new message. The call does not check for
    such pointers.
 
@@ -1334,9 +1343,9 @@ static inline size_t rrcache_put_response(const struct rrcache_query *query,
    RRCACHE_BAD_DATA if the last rdata of a set are cut off; and RRCACHE_WRONG_BODY if a set has no
    data. Returns RRCACHE_SMALL if the buffer is too small: the buffer is then unmodified, and `size`
    is the size of the message. If the message would have more than RRCACHE_MESSAGE_OCTETS octets, no
-   buffer is large enough, and `size` is RRCACHE_MESSAGE_OCTETS + 1. The new message may be too
-   large although the response was not, because only owners are compressed in the new message. In
-   this case, leave out the additional section. */
+   buffer is large enough, and `size` is RRCACHE_MESSAGE_OCTETS + 1. Even if the response was not
+   too large, the new message may be, because only owners are compressed in the new message. In this
+   case, leave out the additional section. */
 static inline enum rrcache_status
 rrcache_compose_response(const struct rrcache_query *query,
                          const struct rrcache_parsed_response *parsed, uint8_t *buffer, size_t room,
@@ -1395,17 +1404,17 @@ static inline enum rrcache_status rrcache_can_read(const struct rrcache_response
    `parts` is not valid, RRCACHE_BAD_LIMITS if a limit is out of range, and RRCACHE_BAD_NAME if the
    zone or the name of the query is not in wire form.
 
-   Before the call reads anything else of the message, it compares the identifier and the question
-   with those of the query (RFC 5452 section 9.1). If they differ, the call returns
-   RRCACHE_OTHER_QUERY and does not read further, so such a message costs almost no time. Anyone may
-   have sent such a message, so the caller drops it and keeps waiting for the response. The call
-   also returns RRCACHE_OTHER_QUERY if the message is too short for a header, or if QR is clear. If
-   `with_case` of the query is set, a name with a letter in another case counts as different. A name
-   that is written with a compression pointer always counts as different. Two errors count as
-   failures of the server (RFC 8767 section 5). RRCACHE_NO_QUESTION means that the response is a
-   header without a question. RRCACHE_BAD_MESSAGE means that the message answers the query but
-   cannot be read. If TC is set, RRCACHE_BAD_MESSAGE is not a failure: send the query again over
-   TCP. If a server returns FORMERR without a question, perhaps it does not support EDNS (RFC 6891
+   Before the call reads the rest of the message, it compares the identifier and the question with
+   those of the query (RFC 5452 section 9.1). If either differs, the call returns
+   RRCACHE_OTHER_QUERY and does not read further, so it takes almost no time to reject such a
+   message. Anyone may have sent such a message, so the caller drops it and keeps waiting for the
+   response. The call also returns RRCACHE_OTHER_QUERY if the message is too short for a header, or
+   if QR is clear. If `with_case` of the query is set, a name with a letter in another case counts
+   as different. A name that is written with a compression pointer always counts as different. Two
+   errors count as failures of the server (RFC 8767 section 5). RRCACHE_NO_QUESTION means that the
+   response is a header without a question. RRCACHE_BAD_MESSAGE means that the message answers the
+   query but cannot be read. If TC is set, RRCACHE_BAD_MESSAGE is not a failure: send the query
+   again over TCP. A server that returns FORMERR without a question may not support EDNS (RFC 6891
    section 7).
 
    These data are relevant:
@@ -1414,28 +1423,28 @@ static inline enum rrcache_status rrcache_can_read(const struct rrcache_response
      of the question or type CNAME; for a question of type ANY, it may have any type. A DNAME RRset
      whose owner is above one of these names is relevant too. For a question of type CNAME or ANY,
      no CNAME record is followed.
-   - In the authority section, the first RRset of each of the types NS, SOA and DS whose owner is at
-     or above the final name is relevant. The final name is the name at the end of the CNAME chain
-     that begins at the name of the question. A chain of more than 16 CNAME records has no final
-     name.
+   - In the authority section, for each of the types NS, SOA and DS, the first RRset whose owner is
+     at or above the final name is relevant. The final name is the name at the end of the CNAME
+     chain that begins at the name of the question. A chain of more than 16 CNAME records has no
+     final name.
    - In the additional section, the A and AAAA RRsets of hosts are relevant. The hosts are the first
-     20 names in the rdata of relevant NS, MX and SRV RRsets. The names in NS RRsets come first.
-     Apart from that, the RRsets are taken in the order of their first records. A name that occurs
-     several times counts once. A name that is out of bailiwick counts, although its addresses are
-     left out.
-   - The negative answer or the failure is always relevant.
+     20 names in the rdata of relevant NS, MX and SRV RRsets. The names in NS RRsets come first;
+     apart from that, the names are in the order of the first records of their RRsets. A name that
+     occurs several times counts only once. A name that is out of bailiwick counts, although its
+     addresses are left out.
+   - A negative answer or a failure is always relevant.
 
    These RRsets are not relevant:
    - A DS RRset whose owner is `zone` itself, because the DS RRset of a zone is in the parent zone
      (RFC 4035 section 2.4).
    - An NS RRset of the authority section, unless the question asks for this RRset or the response
-     is a referral (RFC 1034 section 4.3.2), which means that AA is clear and the owner of the NS
+     is a referral (RFC 1034 section 4.3.2). In a referral, AA is clear and the owner of the NS
      RRset is below `zone`. So the servers of a zone cannot renew the delegation of this zone by
      adding NS records to the authority section of other responses. But a repeated referral renews
-     its NS RRset. If a caller wants a delegation to end with the TTL of its first referral, the
-     caller peeks for the NS RRset of a referral before it makes the offers of the referral. If an
-     unexpired NS RRset with the same data is cached, the caller does not make the offers for the
-     part to which the owner of this RRset belongs.
+     its NS RRset. A caller that wants a delegation to end with the TTL of its first referral peeks
+     for the NS RRset of each referral before it makes the offers of that referral. If an unexpired
+     NS RRset with the same data is cached, the caller does not make the offers for the part to
+     which the owner of this RRset belongs.
    - An RRset with more than 16,384 octets of rdata.
    - In class IN, an RRset of type A with rdata that are not 4 octets long, or an RRset of type AAAA
      with rdata that are not 16 octets long.
@@ -1480,9 +1489,8 @@ static inline enum rrcache_status rrcache_read_response(struct rrcache_offers *o
 /* Reads a response as `rrcache_read_response` does, but does not compare the response with a query.
    The handle then holds all offers of the response that are in bailiwick. The call ignores
    `lowest_ttl` and `clears_denied` of the response. A `response` line of a trace (docs/FORMATS.md)
-   makes the same offers. The errors are those of `rrcache_read_response`, except that
-   RRCACHE_BAD_MESSAGE takes the place of RRCACHE_OTHER_QUERY and RRCACHE_NO_QUESTION. Needs no
-   lock. */
+   makes the same offers. The errors are those of `rrcache_read_response`, but RRCACHE_BAD_MESSAGE
+   replaces RRCACHE_OTHER_QUERY and RRCACHE_NO_QUESTION. Needs no lock. */
 static inline enum rrcache_status
 rrcache_read_message_unchecked(struct rrcache_offers *offers,
                                const struct rrcache_response *response,
@@ -1504,15 +1512,15 @@ rrcache_read_message_unchecked(struct rrcache_offers *offers,
         concerned);
 }
 
-/* Offers to the shelf of one part all data for this part that a handle holds, with the timestamp of
+/* Offers all data that a handle holds for one part to the shelf of this part, with the timestamp of
    the response. The part is `share->part`, which is counted from 0, and must be below the number of
    parts for which the message was read. The handle keeps the offers, so the caller may make the
    offers for a part again. The shelf keeps the data that it stored even after the offers of the
    handle are freed. The call copies no names and no data. It writes to `counts` how many of the
-   offers had each outcome. If an offer fails, `counts` has the outcomes of the offers before it.
-   Returns RRCACHE_BAD_RULES if there is no such part, and RRCACHE_OTHER_SEED if the seed of the
-   shelf is not the seed with which the message was read, because then no ask would find the data.
-   Needs the write lock of the shelf. */
+   offers had each outcome. If an offer fails, `counts` covers only the offers before it. Returns
+   RRCACHE_BAD_RULES if there is no such part. Returns RRCACHE_OTHER_SEED if the message was read
+   with a seed that is not the seed of the shelf, because no ask would then find the data. Needs the
+   write lock of the shelf. */
 static inline enum rrcache_status rrcache_offer_read(struct rrcache_shelf *shelf,
                                                      struct rrcache_offers *offers,
                                                      const struct rrcache_share *share,
@@ -1530,10 +1538,10 @@ static inline enum rrcache_status rrcache_offer_read(struct rrcache_shelf *shelf
 
 /* Writes to `summary` the RCODE, AA and TC of a response that was read into a handle, and the kind
    of the response (`enum rrcache_response_kind`). For a referral, the call writes the zone of the
-   referral to `name`; for an alias, it writes the name to which the CNAME chain leads. This name is
-   made under the seed with which the response was read. For any other kind, `name` is unmodified.
-   The call never allocates and needs no lock, and its only errors are RRCACHE_NULL, RRCACHE_OVERLAP
-   and RRCACHE_NO_OFFERS. */
+   referral to `name`; for an alias, it writes the name to which the CNAME chain leads. In both
+   cases, `name` is made under the seed with which the response was read. For any other kind, `name`
+   is unmodified. The call never allocates and needs no lock, and its only errors are RRCACHE_NULL,
+   RRCACHE_OVERLAP and RRCACHE_NO_OFFERS. */
 static inline enum rrcache_status rrcache_tell_response(struct rrcache_offers *offers,
                                                         struct rrcache_name *name,
                                                         struct rrcache_summary *summary)
@@ -1547,22 +1555,22 @@ static inline enum rrcache_status rrcache_tell_response(struct rrcache_offers *o
 }
 
 /* Writes one of the offers of a handle to `told`, `buffer` and `name`. Offers are numbered from 0,
-   in the order of the message. The call writes the offer in the form of the reply that the offer
-   would give at the timestamp of the response, with the whole TTL left. So the caller can answer a
-   waiting client even with data that no shelf stores: data with TTL 0, or data of lower rank than
-   the cached data. The call writes to `name` the name of the offer: the owner of an RRset, or the
-   name of a negative answer or a failure. This name is made under the seed with which the response
-   was read, and its `part` is the part of the offer.
+   in the order of the message. The call writes the offer in the form of a reply at the timestamp of
+   the response, with the whole TTL left. So the caller can answer a waiting client even with data
+   that no shelf stores: data with TTL 0, or data of lower rank than the cached data. The call
+   writes to `name` the name of the offer: the owner of an RRset, or the name of a negative answer
+   or a failure. This name is made under the seed with which the response was read, and its `part`
+   is the part of the offer.
 
    `told->rtype` is the type of the offer, or 0 for RRCACHE_NXDOMAIN. For RRCACHE_FAILED,
-   `told->retry_from` is the timestamp at which the failure ends. `told->entry` has the kind, rank,
-   TTL and timestamp of the offer; its `number` and `age` are 0, because only a shelf knows them.
-   All offers of a response have the class of its question.
+   `told->retry_from` is the timestamp at which the failure ends. `told->entry` contains the kind,
+   rank, TTL and timestamp of the offer. Its `number` and `age` are 0, because only a stored entry
+   has them. All offers of a response have the class of its question.
 
    Returns RRCACHE_NO_OFFERS if there is no offer with this number. Returns RRCACHE_SMALL if the
-   buffer is too small: `name` and `told` are written, and the buffer is unmodified. For an offer
-   that `rrcache_read_response` read, a buffer of 28,551 octets is always large enough. The call
-   never allocates, and needs no lock. */
+   buffer is too small: the call then writes to `name` and `told`, but leaves the buffer unmodified.
+   For an offer that `rrcache_read_response` read, a buffer of 28,551 octets is always large enough.
+   The call never allocates, and needs no lock. */
 static inline enum rrcache_status rrcache_tell_offer(struct rrcache_offers *offers, uint64_t index,
                                                      struct rrcache_name *name,
                                                      struct rrcache_told *told, uint8_t *buffer,
@@ -1601,11 +1609,11 @@ static inline uint64_t rrcache_data_room(const uint8_t *data, uint64_t size)
     return octets + (count > 1 ? RRCACHE_VALUE_OCTETS + RRCACHE_BLOCK_OCTETS : 0);
 }
 
-/* Computes how many octets, as `rrcache_sizes` counts them, an offer uses if it is stored under a
-   new key. `name`, `told` and `buffer` are the output of `rrcache_tell_offer`. If an offer uses
-   more octets than the limit to which the caller trims the shelf, the trim after this offer would
-   evict all keys. The caller can instead make only the other offers of the message, with
-   `rrcache_offer_one`, and answer the waiting client from the output of `rrcache_tell_offer`.
+/* Computes how many octets, as `rrcache_sizes` counts them, an offer would use if it were stored
+   under a new key. `name`, `told` and `buffer` are the output of `rrcache_tell_offer`. If an offer
+   would use more octets than the limit to which the caller trims the shelf, the trim after this
+   offer would evict all keys. The caller can instead make only the other offers of the message,
+   with `rrcache_offer_one`, and answer the waiting client from the output of `rrcache_tell_offer`.
    Returns RRCACHE_SMALL if `buffer_size` is less than the sum of the sizes in `told`. Needs no
    lock. */
 static inline enum rrcache_status rrcache_tell_octets(const struct rrcache_name *name,
@@ -1629,13 +1637,13 @@ static inline enum rrcache_status rrcache_tell_octets(const struct rrcache_name 
     return RRCACHE_DONE;
 }
 
-/* Makes one of the offers that a handle holds. The offer is made to `shelf`, and the call writes
-   the outcome to `outcome` (`enum rrcache_outcome`). So a caller that makes its own decisions, such
-   as a validator, can make some offers and not others. `pick->index` is counted from 0. The shelf
-   must be the shelf of the offer's part, which is `part` of the name that `rrcache_tell_offer`
-   writes. The call does not check this condition. Returns RRCACHE_NO_OFFERS if there is no offer
-   with this number, and RRCACHE_OTHER_SEED if the seed of the shelf is not the seed with which the
-   message was read. Needs the write lock of the shelf. */
+/* Makes one offer of a handle to `shelf`, and writes the outcome to `outcome`
+   (`enum rrcache_outcome`). So a caller that makes its own decisions, such as a validator, can make
+   only some of the offers. `pick->index` is counted from 0. The shelf must be the shelf of the
+   offer's part, which is `part` of the name that `rrcache_tell_offer` writes. The call does not
+   check this condition. Returns RRCACHE_NO_OFFERS if there is no offer with this number, and
+   RRCACHE_OTHER_SEED if the seed of the shelf is not the seed with which the message was read.
+   Needs the write lock of the shelf. */
 static inline enum rrcache_status rrcache_offer_one(struct rrcache_shelf *shelf,
                                                     struct rrcache_offers *offers,
                                                     const struct rrcache_offer_pick *pick,
@@ -1667,10 +1675,10 @@ static inline enum rrcache_status rrcache_free_offers(struct rrcache_offers *off
    `rrcache_offer_read` for each shelf that the message concerns. `rrcache_offer_message_unchecked`
    does not compare the response with a query, and ignores `lowest_ttl` and `clears_denied`. A
    response with TC set offers nothing ("What is stored" above). The call writes to `counts` how
-   many of the offers had each outcome. If an offer fails, `counts` has the outcomes of the offers
-   before it. Returns RRCACHE_BAD_LIMITS if a limit is out of range, RRCACHE_BAD_NAME if the zone is
-   not in wire form, and RRCACHE_BAD_MESSAGE if the octets cannot be read as a response. Needs the
-   write lock. */
+   many of the offers had each outcome. If an offer fails, `counts` covers only the offers before
+   it. Returns RRCACHE_BAD_LIMITS if a limit is out of range, RRCACHE_BAD_NAME if the zone is not in
+   wire form, and RRCACHE_BAD_MESSAGE if the octets cannot be read as a response. Needs the write
+   lock. */
 static inline enum rrcache_status
 rrcache_offer_message_unchecked(struct rrcache_shelf *shelf,
                                 const struct rrcache_response *response, uint64_t line,
@@ -1691,9 +1699,9 @@ rrcache_offer_message_unchecked(struct rrcache_shelf *shelf,
 
 /* Does what `rrcache_offer_message_unchecked` does, but offers only the data of names in one part.
    Parts are counted from 0. Offers of other parts are neither made nor counted. Returns
-   RRCACHE_BAD_RULES if there is no such part or `parts->count` is not 1 to 64, RRCACHE_BAD_SEED if
-   the seed is all zeros, and RRCACHE_OTHER_SEED if the shelf has another seed. The other errors are
-   those of `rrcache_offer_message_unchecked`. Needs the write lock. */
+   RRCACHE_BAD_RULES if there is no such part or `parts->count` is not in the range 1 to 64,
+   RRCACHE_BAD_SEED if the seed is all zeros, and RRCACHE_OTHER_SEED if the shelf has another seed.
+   The other errors are those of `rrcache_offer_message_unchecked`. Needs the write lock. */
 static inline enum rrcache_status
 rrcache_offer_part_unchecked(struct rrcache_shelf *shelf, const struct rrcache_response *response,
                              const struct rrcache_parts *parts, const struct rrcache_share *share,
@@ -1717,11 +1725,11 @@ rrcache_offer_part_unchecked(struct rrcache_shelf *shelf, const struct rrcache_r
 }
 
 /* Offers an RRset under its owner, and writes the outcome to `outcome` (`enum rrcache_outcome`). To
-   flush an RRset or NODATA, offer a set with `ttl` 0, RRCACHE_AUTHORITATIVE_ANSWER and any valid
+   flush an RRset or NODATA, offer an RRset with `ttl` 0, RRCACHE_AUTHORITATIVE_ANSWER and any valid
    data of the type. Such an offer clears the RRset or NODATA that the shelf holds for the name,
    class and type. To flush an NXDOMAIN, call `rrcache_offer_negative` with RRCACHE_NXDOMAIN,
    RRCACHE_AUTHORITATIVE_ANSWER, `ttl` 0 and any SOA record, such as one with the root as its owner
-   and 22 zero octets as its rdata. No call flushes all names below a name. Replies have the data
+   and 22 zero octets as its rdata. No call flushes all names below a name. Replies contain the data
    exactly as they were offered, so the caller has to leave out duplicate records (RFC 2181 section
    5).
 
@@ -1794,10 +1802,10 @@ static inline enum rrcache_status rrcache_offer_negative(struct rrcache_shelf *s
 /* Offers a resolution failure of a name, a class and a type (RFC 9520). A failure is always stored,
    so `outcome` is RRCACHE_KEPT. A failure with `ttl` 0 replaces, and so ends, the failure that the
    shelf holds for the name, class and type. No ask or peek returns a failure with `ttl` 0. Such a
-   failure takes a key even if there is no failure to end, and may then evict another key. So offer
-   a failure with `ttl` 0 only after a call has returned RRCACHE_FAILED. Returns RRCACHE_BAD_TYPE if
-   data of the type are not kept in the class, RRCACHE_BAD_NAME if the name is not in wire form, and
-   RRCACHE_WRONG_BODY if `ttl` is above 2^31 - 1. Needs the write lock. */
+   failure occupies a key even if there is no failure to end, and may then evict another key. So
+   offer a failure with `ttl` 0 only after a call has returned RRCACHE_FAILED. Returns
+   RRCACHE_BAD_TYPE if data of the type are not kept in the class, RRCACHE_BAD_NAME if the name is
+   not in wire form, and RRCACHE_WRONG_BODY if `ttl` is above 2^31 - 1. Needs the write lock. */
 static inline enum rrcache_status rrcache_offer_failure(struct rrcache_shelf *shelf,
                                                         const struct rrcache_failure *failure,
                                                         uint32_t *outcome)
@@ -1845,15 +1853,15 @@ static inline enum rrcache_status rrcache_can_tell(const struct rrcache_shelf *s
    Returns RRCACHE_BAD_CHOICE if the question has an unknown purpose or mode, RRCACHE_BAD_TYPE if
    its type is 0 or its class is not kept, RRCACHE_BAD_NAME if `name` holds no name, and
    RRCACHE_OTHER_SEED if the name was made under another seed. Returns RRCACHE_SMALL if the buffer
-   is too small: `told` then has the reply and its sizes, and no event is written. The call checks
-   for RRCACHE_SMALL before RRCACHE_HISTORY_FULL and RRCACHE_MOMENT_TOO_LARGE, so a second call with
-   enough room may still fail. While the shelf does not record, the call never allocates and never
-   returns RRCACHE_MEMORY. Needs the write lock.
+   is too small: `told` then contains the reply and its sizes, and no event is written. The call
+   checks for RRCACHE_SMALL before RRCACHE_HISTORY_FULL and RRCACHE_MOMENT_TOO_LARGE, so a second
+   call with a large enough buffer may still fail. While the shelf does not record, the call never
+   allocates and never returns RRCACHE_MEMORY. Needs the write lock.
 
    A reply needs at most 255 octets for its owner, plus the octets of its data. For data that
    `rrcache_read_response` read, 28,551 octets are always enough: 255 for the owner, 16,384 for the
-   rdata, and 2 before the rdata of each record. There are at most 5,956 records, which is the
-   maximum that fits in a message. */
+   rdata, and 2 for the length of the rdata of each record. At most 5,956 records fit in a
+   message. */
 static inline enum rrcache_status rrcache_ask(struct rrcache_shelf *shelf,
                                               const struct rrcache_name *name,
                                               const struct rrcache_question *question,
@@ -1896,7 +1904,7 @@ static inline enum rrcache_status rrcache_peek(const struct rrcache_shelf *shelf
    question. The errors are those of `rrcache_ask`. Needs the write lock.
 
    The reply is the CNAME record if two conditions hold. First, a question for type CNAME would get
-   the record as a fresh answer, or as a stale answer that is acceptable. Second, the record takes
+   the record as a fresh answer or as an acceptable stale answer. Second, the record takes
    precedence over the reply for the type of the question. The record takes precedence in each of
    these cases:
    - The reply for the type is RRCACHE_MISS or RRCACHE_FAILED.
@@ -1906,11 +1914,12 @@ static inline enum rrcache_status rrcache_peek(const struct rrcache_shelf *shelf
      unexpired and of higher rank.
 
    So the call chooses between the CNAME record and the data of the type in the same way as an ask
-   chooses between an RRset and an NXDOMAIN. As a result, an expired address is not returned in
-   place of a newer CNAME record that may be returned (RFC 8767 section 7). If either condition does
-   not hold, the call returns the reply for the type. It always does so for a question of type CNAME
-   or ANY (RFC 1034 section 4.3.2), and for a question of type NSEC or RRSIG, because a name with a
-   CNAME record may have NSEC and RRSIG records of its own (RFC 4035 section 2.5).
+   chooses between an RRset and an NXDOMAIN. As a result, if a newer CNAME record may be returned,
+   the call returns that record rather than an expired address (RFC 8767 section 7). If either
+   condition does not hold, the call returns the reply for the type. For a question of type CNAME or
+   ANY, the call always returns the reply for the type (RFC 1034 section 4.3.2). The same applies to
+   a question of type NSEC or RRSIG, because a name with a CNAME record may have NSEC and RRSIG
+   records of its own (RFC 4035 section 2.5).
 
    If the reply is the CNAME record, the resolver then asks for the target of the record, under the
    lock of the target's shelf. The target is the name in the first rdata. Further rdata do not
@@ -1985,7 +1994,7 @@ static inline enum rrcache_status rrcache_tell_stored(const struct rrcache_shelf
 /* Removes the keys that are fully expired at a timestamp, as one event, and writes their number to
    `removed`. The first sweep of a shelf visits all its keys. A later sweep visits only keys that
    may have expired since the previous sweep. A caller need not sweep, because eviction makes room
-   for new keys. `sweep->most` is ignored. Needs the write lock.
+   for new keys. The call ignores `sweep->most`. Needs the write lock.
 
    An NXDOMAIN hides an older RRset of the name, even after the NXDOMAIN has expired, unless the
    RRset is unexpired and of higher rank. After a sweep has removed the NXDOMAIN, the RRset may
@@ -2002,13 +2011,13 @@ rrcache_sweep(struct rrcache_shelf *shelf, const struct rrcache_sweep_at *sweep,
 }
 
 /* Writes to `moment` a timestamp before which no key of the shelf is fully expired. A sweep at an
-   earlier timestamp removes nothing, and even a sweep at this timestamp may remove nothing. Before
-   the first sweep, if the shelf holds a key, the timestamp is the earliest time at which any of the
-   entries stored so far is fully expired, including entries that the shelf no longer holds. After a
-   sweep, the timestamp is later than the timestamp of the sweep, until an offer is made or a
-   chapter is closed. So if a loop sweeps at this timestamp until the timestamp is later than now,
-   the loop always ends. The timestamp is UINT64_MAX if and only if the shelf holds no key. The call
-   writes no event, and needs only the read lock. */
+   earlier timestamp removes nothing, and even a sweep at this timestamp may remove nothing. If the
+   shelf holds a key but has not been swept yet, the timestamp is the earliest at which any entry
+   stored so far is fully expired. Entries that the shelf no longer holds count too. After a sweep,
+   until an offer is made or a chapter is closed, the timestamp is later than the timestamp of the
+   sweep. So a loop that sweeps at this timestamp until the timestamp is later than the current time
+   always ends. The timestamp is UINT64_MAX if and only if the shelf holds no key. The call writes
+   no event, and needs only the read lock. */
 static inline enum rrcache_status rrcache_next_expiry(const struct rrcache_shelf *shelf,
                                                       uint64_t *moment)
 {
@@ -2023,8 +2032,8 @@ static inline enum rrcache_status rrcache_next_expiry(const struct rrcache_shelf
 
 /* Sweeps in steps, so that no call takes long. Each step is a sweep at the timestamp that
    `rrcache_next_expiry` would then return, and is one event. The call stops when that timestamp is
-   later than `moment`, when at least `most` keys have been removed, or after `most` steps. Keys
-   that fully expire in the same second are removed in one step, and a step may remove no key. The
+   later than `moment`, when at least `most` keys have been removed, or after `most` steps. All keys
+   that fully expire in the same second are removed in one step. A step may also remove no key. The
    call writes to `swept` the number of keys that it removed. `swept->is_done` is 1 if no key is
    left that is fully expired at `moment`, and 0 if such a key may be left.
 
@@ -2047,8 +2056,9 @@ static inline enum rrcache_status rrcache_sweep_some(struct rrcache_shelf *shelf
    the remaining keys (`rrcache_sizes`) are at most `limit`, until it has removed `most` keys, or
    until no key is left. The call writes to `trimmed` the number of keys that it removed, and the
    octets of the remaining keys. If these octets are still above the limit, call the function again.
-   A caller that trims after each message evicts about as many octets as the message stored, so no
-   call takes long. The entries of the remaining keys do not change. Needs the write lock.
+   If a caller trims the shelf after each message, each trim evicts about as many octets as the
+   message added, so no call takes long. The entries of the remaining keys do not change. Needs the
+   write lock.
 
    In a trim, the eviction of data is one event: an offer of these data with TTL 0, which clears the
    key. The eviction of a failure is two events: an offer of a failure with TTL 0, and a sweep at
@@ -2058,13 +2068,14 @@ static inline enum rrcache_status rrcache_sweep_some(struct rrcache_shelf *shelf
 
    The octets that a trim limits are not all of the memory that a shelf uses. The first sweep of a
    shelf visits all its keys, and from then on the shelf keeps the times at which its keys expire.
-   RRCACHE_ENTRY_OCTETS counts one such time for each key, but the shelf may keep more of them for a
-   while. SECURITY.md says how much memory trimmed shelves used in tests.
+   RRCACHE_ENTRY_OCTETS counts one such time for each key, but the shelf may keep more such times
+   for a while. SECURITY.md says how much memory trimmed shelves used in tests.
 
    Returns RRCACHE_BAD_RULES if `limit` or `most` is 0, and RRCACHE_MOMENT_TOO_LARGE if the
    timestamp is above 2^40. In both cases, the call does nothing. The call may return RRCACHE_MEMORY
    or RRCACHE_HISTORY_FULL after it has removed some keys: these keys stay removed, and `trimmed` is
-   unmodified. In a shelf that does not record, only a sweep at timestamp 0 allocates memory. */
+   unmodified. If the shelf does not record, a trim allocates memory only for a sweep at timestamp
+   0. */
 static inline enum rrcache_status rrcache_trim(struct rrcache_shelf *shelf,
                                                const struct rrcache_trim_to *trim,
                                                struct rrcache_trimmed *trimmed)
@@ -2128,11 +2139,11 @@ static inline enum rrcache_status rrcache_take_chapters(struct rrcache_shelf *sh
    RRCACHE_HISTORY_FULL or RRCACHE_MEMORY, the shelf still records, and `rrcache_stop_and_drop` can
    stop the recording. Needs the write lock.
 
-   If this call directly follows `rrcache_record`, there is one chapter, which has no events. The
-   lines of this chapter list all entries of the shelf, so a caller can save the contents of the
-   shelf in this way. No call makes a shelf from such a chapter, but a caller can offer each entry
-   to an empty shelf, with the timestamp, rank and TTL in the line of the entry, in the order of
-   event numbers. */
+   If this call directly follows `rrcache_record`, the handle then holds one chapter, which has no
+   events. The lines of this chapter list all entries of the shelf, so a caller can save the
+   contents of the shelf in this way. No call makes a shelf from such a chapter, but a caller can
+   offer each entry to an empty shelf, with the timestamp, rank and TTL in the line of the entry, in
+   the order of event numbers. */
 static inline enum rrcache_status rrcache_stop_recording(struct rrcache_shelf *shelf,
                                                          struct rrcache_chapters *chapters,
                                                          uint64_t *count)
@@ -2143,15 +2154,16 @@ static inline enum rrcache_status rrcache_stop_recording(struct rrcache_shelf *s
     return (enum rrcache_status)rrc_stop_recording(shelf, chapters, count);
 }
 
-/* Writes to the front of the buffer as many octets of a line of a chapter as fit, starting at the
-   octet `place->from` of the line. All fields of `place` are counted from 0. The call writes to
-   `told` the number of octets of the line, including its LF, and the number of octets that it wrote
-   to the buffer: 0 if `from` is at or after the end of the line. A chapter has a first line with
-   the number of the chapter and the rules of the shelf, a line for each key that was cached when
-   the chapter began, and a line for each event. The lines have the form of an archive
-   (docs/FORMATS.md). Returns RRCACHE_NO_CHAPTERS if the handle holds no chapters, and
-   RRCACHE_NO_LINE if there is no such line or no such chapter. The call allocates memory for the
-   whole line, and frees this memory before it returns. Needs no lock. */
+/* Writes a line of a chapter to the front of the buffer, starting at the octet `place->from` of the
+   line. If the rest of the line does not fit, the call writes as much of it as fits. All fields of
+   `place` are counted from 0. The call writes to `told` the number of octets of the line, including
+   its LF, and the number of octets that it wrote to the buffer. The latter number is 0 if `from` is
+   at or after the end of the line. The text of a chapter has a first line with the number of the
+   chapter and the rules of the shelf, a line for each key that was cached when the chapter began,
+   and a line for each event. The lines have the form of an archive (docs/FORMATS.md). Returns
+   RRCACHE_NO_CHAPTERS if the handle holds no chapters, and RRCACHE_NO_LINE if there is no such line
+   or no such chapter. The call allocates memory for the whole line, and frees this memory before it
+   returns. Needs no lock. */
 static inline enum rrcache_status rrcache_chapter_line(struct rrcache_chapters *chapters,
                                                        const struct rrcache_place *place,
                                                        uint8_t *buffer, size_t buffer_size,
@@ -2170,10 +2182,10 @@ static inline enum rrcache_status rrcache_chapter_line(struct rrcache_chapters *
 }
 
 /* Writes a line of a chapter, including its LF, to `sink`, starting at the octet `place->from` of
-   the line. All fields of `place` are counted from 0. Each call of the sink gets
-   RRCACHE_PIECE_OCTETS octets of the line, except the last call, which gets the rest. If the sink
-   returns nonzero, `rrcache_write_line` writes nothing more and returns RRCACHE_SINK. The other
-   errors are those of `rrcache_chapter_line`. Needs no lock. */
+   the line. All fields of `place` are counted from 0. Each call of the sink receives
+   RRCACHE_PIECE_OCTETS octets of the line, except the last call, which receives the rest. If the
+   sink returns nonzero, `rrcache_write_line` writes nothing more and returns RRCACHE_SINK. The
+   other errors are those of `rrcache_chapter_line`. Needs no lock. */
 static inline enum rrcache_status rrcache_write_line(struct rrcache_chapters *chapters,
                                                      const struct rrcache_place *place,
                                                      rrcache_sink sink, void *state)
@@ -2228,12 +2240,12 @@ static inline enum rrcache_status rrcache_free_chapters(struct rrcache_chapters 
     return (enum rrcache_status)rrc_free_chapters(chapters);
 }
 
-/* Writes the sizes of a shelf: the number of keys, including fully expired keys that have not been
-   swept yet; the number of recorded events in the open chapter, and the number of closed chapters,
-   which are both 0 while the shelf does not record; and the number of octets that the keys use.
-   There are three kinds of key: a name, a class and a type, for the RRset or NODATA of this type; a
-   name and a class, for the NXDOMAIN; and a name, a class and a type, for the resolution failure of
-   this type. Needs only the read lock.
+/* Writes the sizes of a shelf: the number of keys, the number of recorded events in the open
+   chapter, the number of closed chapters, and the number of octets that the keys use. The number of
+   keys includes fully expired keys that have not been swept yet. While the shelf does not record,
+   the numbers of events and chapters are 0. There are three kinds of key: a name, a class and a
+   type, for the RRset or NODATA of this type; a name and a class, for the NXDOMAIN; and a name, a
+   class and a type, for the resolution failure of this type. Needs only the read lock.
 
    The octets are approximately the memory that the keys use. A key uses RRCACHE_ENTRY_OCTETS, plus
    the octets for its name. An RRset uses RRCACHE_SHARED_OCTETS, plus the octets for the rdata of
@@ -2245,11 +2257,11 @@ static inline enum rrcache_status rrcache_free_chapters(struct rrcache_chapters 
    uses RRCACHE_SHARED_OCTETS more than rdata of the same size.
 
    The shelf updates these counts whenever keys change, so the time of the call does not grow with
-   the number of keys. The number of octets leaves out two things: the events and chapters, which
-   keep even the data of evicted, replaced or swept keys; and, in a shelf that has been swept, the
-   names and expiry times of evicted keys, which the shelf keeps until these keys would have
-   expired. The shelf keeps them for at most twice as many evicted keys as it holds keys, plus
-   64. */
+   the number of keys. The number of octets leaves out two things. The first is the events and
+   chapters, which keep even the data of evicted, replaced or swept keys. The second is the names
+   and expiry times of evicted keys: a shelf that has been swept keeps them until these keys would
+   have expired. If the shelf holds n keys, it keeps the names and expiry times of at most 2n + 64
+   evicted keys. */
 static inline enum rrcache_status rrcache_sizes(const struct rrcache_shelf *shelf,
                                                 struct rrcache_usage *sizes)
 {
