@@ -1,11 +1,11 @@
 /* SPDX-License-Identifier: MIT */
 /* rrcache.h: the RRset cache of a recursive DNS resolver, shared by all its threads.
 
-   `struct rrcache` is a cache that does its own locking. The cache is C code on top of the shelves
-   (shards) of rrcache_shelf.h. The exported functions of the shelves (`rrc_..`) are proved to meet
-   their contracts, and docs/RULES.md has the rules that they follow. The inline functions of the
-   headers and the C code of the cache are tested, not proved. A program with one thread, or with
-   its own locks, can use the shelves directly.
+   `struct rrcache` is a cache that does its own locking. The cache is written in C, on top of the
+   shelves (shards) of rrcache_shelf.h. The exported functions of the shelves (`rrc_..`) are proved
+   to meet their contracts, and docs/RULES.md describes the rules that they follow. The inline
+   functions of the headers and the C code of the cache are tested, not proved. A program with one
+   thread, or with its own locks, can use the shelves directly.
 
    SECURITY.md, "A caller's checklist", lists what a resolver itself has to do, and examples/stub.c
    is a complete example. A process may have several caches, for example one for each view. Each
@@ -13,32 +13,33 @@
 
    Threads
    - The library starts no threads.
-   - Any thread may call any function at any time. The exception is `rrcache_close`: no other call
-     on the cache may be running when it is called, and none may follow. A call may block on a lock.
-     If a thread is canceled during a call (`pthread_cancel`, with deferred cancellation), the call
-     ends before the thread does. No function may be called in a signal handler, or in the child of
-     a process that forked while several threads ran. If a process with one thread forks, the parent
-     and the child each have their own copy of the cache, with the same seed, and neither sees what
-     the other stores. Processes cannot share a cache.
-   - A hash of each name, keyed with a secret seed, chooses the shelf of the name. Each shelf has
-     `readers` places (see `struct rrcache_config`). A place is a lock that one thread at a time
-     holds during a look-up. The library assigns threads to these places in turn. A look-up that
-     does not move its entry in the LRU order takes only the place of its thread, or another place
-     if that one is taken. Such look-ups do not block each other, even for the same name, as long as
-     there are at least as many places as threads. A call that changes a shelf keeps new look-ups
-     out of the shelf, and waits for the look-ups that have begun. No call holds locks of two
-     shelves at the same time.
-   - If a thread repeats a look-up within a second, and the name is in lower case, the library may
-     copy the answer from a memo, which is a saved copy of an earlier answer. The library does so
-     only if nothing in the shelf of the name has changed since that answer. Only negative answers
-     and answers with a single RRset have memos. A look-up that a memo answers takes no place. Its
-     result and its effect on the counters are the same as without a memo.
+   - Any thread may call any function at any time, with one exception: when a thread calls
+     `rrcache_close`, no other call on the cache may be running, and no call may follow. A call may
+     block on a lock. If a thread is canceled during a call (`pthread_cancel`, with deferred
+     cancellation), the call ends before the thread does. No function may be called in a signal
+     handler, or in the child of a process that forked while several threads ran. If a process with
+     one thread forks, the parent and the child each have their own copy of the cache. The two
+     copies have the same seed, but neither process sees the data that the other process stores.
+     Processes cannot share a cache.
+   - The library chooses the shelf of a name by a hash of the name, keyed with a secret seed. Each
+     shelf has `readers` places (see `struct rrcache_config`). A place is a lock that one thread at
+     a time holds during a look-up. The library assigns threads to these places in turn. A look-up
+     that does not move its entry in the LRU order takes only the place of its thread or, if that
+     place is taken, another place. Such look-ups do not block each other, even for the same name,
+     as long as there are at least as many places as threads. A call that changes a shelf keeps new
+     look-ups out of the shelf, and waits for the look-ups that have begun. No call holds locks of
+     two shelves at the same time.
+   - If a thread repeats a look-up in the same second, and the name is in lower case, the library
+     may copy the answer from a memo, which is a saved copy of an earlier answer. The library does
+     so only if nothing in the shelf of the name has changed since it gave that answer. Only
+     negative answers and answers with a single RRset have memos. A look-up that a memo answers
+     takes no place. Its result and its effect on the counters are the same as without a memo.
    - ThreadSanitizer cannot see the locks of the built library. To run a program under
      ThreadSanitizer, compile the files of lib/ with the same sanitizer, and link them before the
-     shared library. The static library has the same functions, so with it the linker also needs
-     `-Wl,--allow-multiple-definition`. ThreadSanitizer may still falsely report races of `free`,
-     because it does not see how shelves count the references to data. The line `race_top:free$` in
-     a file of suppressions prevents these reports.
+     shared library. The static library contains the same functions, so if you link it instead, the
+     linker also needs `-Wl,--allow-multiple-definition`. ThreadSanitizer may still falsely report
+     races of `free`, because it does not see how shelves count the references to data. The line
+     `race_top:free$` in a suppressions file prevents these reports.
    - Eviction is LRU. But a look-up does not always move the entry that it finds to the front of the
      LRU order, because a move changes the shelf. In a shelf that is at least three quarters full,
      by octets or by keys, a look-up moves its entry if more than a quarter of the shelf's keys may
@@ -51,31 +52,31 @@
    - An answer is a copy in the caller's buffer. The copy stays valid after the entries that it came
      from are evicted and after `rrcache_close`, and does not count toward `octets`.
    - The keys use at most `octets` octets of memory, as `rrcache_sizes` counts them. Each shelf may
-     use only an equal share of `octets`, even if other shelves have room. A call that stores data
-     in a shelf evicts the least recently used keys of that shelf, if necessary, before it returns.
-     If malloc fails during the eviction, the call still succeeds, and the next call that stores
-     data in that shelf evicts the remaining excess. `octets` covers only the keys, and an allocator
-     uses more memory for them than is counted. So plan for two and a half times `octets`, and also
-     for the memory that the next item describes. The sum is about 2.575 times `octets`, plus 4
-     octets for each key that `keys` allows. SECURITY.md has the measurements behind the factor of
-     two and a half, and says what was not measured.
+     use only an equal share of `octets`, even if other shelves use less than their share. A call
+     that stores data in a shelf evicts the least recently used keys of that shelf, if necessary,
+     before it returns. If malloc fails during the eviction, the call still succeeds, and the next
+     call that stores data in that shelf evicts the remaining excess. `octets` covers only the keys,
+     and an allocator uses more memory for them than is counted. So plan for two and a half times
+     `octets`, and also for the memory that the next item describes. The sum is about 2.575 times
+     `octets`, plus 4 octets for each key that `keys` allows. SECURITY.md has the measurements
+     behind the factor of two and a half, and says what was not measured.
    - In addition, `rrcache_open` allocates the places, memos of answers, and a filter of the names
      that may be aliases. All memos together use at most 1/16 of `octets`, and at most about 235 KiB
      times `readers`. The filter of aliases uses at most about 1/80 of `octets`, and at most 128 KiB
      for each shelf. A second filter, of the names that may have an NXDOMAIN or a failure, uses 2 to
      4 octets for each key that `keys` allows, regardless of `octets`: 8 MiB with the default number
      of keys. So if `octets` is small, set `keys` too.
-   - A cache has at most 64 shelves of 65,536 keys, or 4,194,304 keys in all. An RRset of one
-     address with a short name uses 320 octets. So a cache holds at most about 1.3 GB of such
-     RRsets, even if `octets` is larger.
-   - The configuration of an open cache cannot be changed. Memory that the library frees goes back
-     to malloc, and malloc decides whether to return that memory to the system.
+   - A cache has at most 64 shelves of at most 65,536 keys each, so it has at most 4,194,304 keys.
+     An RRset of one address with a short name uses 320 octets. So a cache holds at most about 1.3
+     GB of such RRsets, even if `octets` is larger.
+   - The configuration of an open cache cannot be changed. Memory that the library frees returns to
+     malloc, which decides whether to return it to the operating system.
    - An RRset that would use more memory than its shelf's share of `octets` is not stored. In tests,
      the largest RRset of a response used 242,208 octets. So with 64 shelves, set `octets` to at
-     least 16 MiB, and use fewer shelves if `octets` is smaller.
+     least 16 MiB. If `octets` has to be smaller, use fewer shelves.
    - Look-ups allocate memory only while histories are being recorded (`rrcache_record_all`).
      `rrcache_next`, `rrcache_stats`, `rrcache_stats_of` and `rrcache_stats_text` never allocate. If
-     malloc fails in a call, except during an eviction, the call returns RRCACHE_MEMORY. The
+     malloc fails in a call, but not during an eviction, the call returns RRCACHE_MEMORY. The
      contents of the cache are then unchanged, with three exceptions: `rrcache_store`,
      `rrcache_sweep_all` and `rrcache_forget` may have done part of their work.
 
@@ -84,10 +85,10 @@
      the current time of CLOCK_BOOTTIME, which cannot be set and keeps running while the machine is
      suspended.
    - A program must either pass 0 in every call, or pass timestamps from its own clock in every
-     call. That clock must never be set back. If the clock is set forward, all data age at once: see
-     "Timestamps" in rrcache_shelf.h. If a program mixes the two clocks, data expire too late or too
-     early. A program that passes 0 may also pass seconds of CLOCK_BOOTTIME, for example when it
-     restores a dump, because 0 means the current time of the same clock. `retry_from` is a
+     call. That clock must never be set back. If the clock is set forward, all data suddenly become
+     older: see "Timestamps" in rrcache_shelf.h. If a program mixes the two clocks, data expire too
+     late or too early. A program that passes 0 may also pass seconds of CLOCK_BOOTTIME, for example
+     when it restores a dump, because 0 means the current time of the same clock. `retry_from` is a
      timestamp of the clock that the program uses.
 
    Errors
@@ -96,8 +97,8 @@
      says otherwise.
    - A function that fills an answer empties the answer first. On error the answer stays empty: its
      `kind` is RRCACHE_MISS, and `end` holds no name. The exception is RRCACHE_SMALL: the answer
-     then has the RRsets that fit, and `kind` and `end` are unspecified. The answer does not say how
-     large a buffer is needed: make the call again with a larger one. If the call was
+     then contains the RRsets that fit, and `kind` and `end` are unspecified. The answer does not
+     say how large a buffer is needed: make the call again with a larger buffer. If the call was
      `rrcache_store`, the second call stores the response again.
    - Memory that a call reads must not overlap memory that it writes, with two exceptions. First,
      the name of a request or of a query, and the zone of a response, may lie in the buffer of the
@@ -110,9 +111,9 @@
    - After RRCACHE_HISTORY_FULL, the shelf whose event numbers are used up can no longer store
      anything. In this case, close the cache and open a new one. At 10^9 events a second in one
      shelf, the numbers last for 146 years.
-   - If a field of `struct rrcache_config` is 0, its default applies. If a limit of a response that
-     is passed to `rrcache_store` is 0, the limit of the cache applies. For the functions of
-     rrcache_shelf.h, a limit of 0 or a seed of zeros is an error.
+   - If a field of `struct rrcache_config` is 0, its default applies. If the caller passes
+     `rrcache_store` a response with a limit of 0, the limit of the cache applies. For the functions
+     of rrcache_shelf.h, a limit of 0 or a seed of zeros is an error.
 
    ABI
    - The library reads or writes every struct of this header. So each of these structs keeps its
@@ -133,7 +134,7 @@ extern "C" {
 
 struct rrcache;
 
-/* The configuration of a cache. If all fields are 0, the cache has good defaults and serves no
+/* The configuration of a cache. If all fields are 0, the cache uses good defaults and serves no
    stale data. */
 struct rrcache_config {
     uint64_t octets;    /* the maximum number of octets of memory that the keys use, divided equally
@@ -142,10 +143,10 @@ struct rrcache_config {
                            up: at most 65,536 for each shelf, or 0 for this maximum */
     uint64_t shelves;   /* the number of shelves: 1 to 64, or 0 for 64 */
     uint64_t readers;   /* the number of places of a shelf, which is the maximum number of threads
-                           that can look up names in the shelf at once: 1 to 64, or 0 for the number
-                           of processors, but at most 16 */
-    uint64_t max_stale; /* for how many seconds past its TTL an RRset may be served: 0 to 604,800
-                           (RFC 8767 section 4). RFC 8767 section 5 suggests 1 to 3 days */
+                           that can look up names in the shelf simultaneously: 1 to 64, or 0 for the
+                           number of processors, but at most 16 */
+    uint64_t max_stale; /* the number of seconds past its TTL for which an RRset may be served: 0 to
+                           604,800 (RFC 8767 section 4). RFC 8767 section 5 suggests 1 to 3 days */
     struct rrcache_limits limits; /* the limits for responses; a field that is 0 means the value of
                                      the same field of RRCACHE_LIMITS */
     uint8_t seed[16];             /* 16 secret random octets, or zeros for random octets from the
@@ -168,22 +169,22 @@ struct rrcache_request {
 /* The maximum number of CNAME records that a look-up follows. */
 enum { RRCACHE_MOST_ALIASES = 16 };
 
-/* A buffer of this size has room for every answer of a look-up, under two conditions: each CNAME
-   RRset and each DNAME RRset has one record (RFC 2181 section 10.1), and the RRset at the end of
-   the CNAME chain came in a response. But a server may send CNAME RRsets of many records. Each of
-   these RRsets is stored if it has at most 16,384 octets of rdata. An answer that contains such an
-   RRset may need a larger buffer, and if the buffer is too small, the call returns RRCACHE_SMALL.
-   If all RRsets of a look-up's answer came in responses, a buffer of 1 MiB has room for them. An
-   answer of `rrcache_store` may also need a larger buffer if the query is of type ANY or of a type
-   that the cache does not keep, such as RRSIG, or if an RRset has more than 16,384 octets of rdata.
-   Even if the buffer is too small for its answer, `rrcache_store` stores everything, and the answer
-   has the RRsets that fit. */
+/* A buffer of this size is large enough for every answer of a look-up, under two conditions: each
+   CNAME RRset and each DNAME RRset has one record (RFC 2181 section 10.1), and the RRset at the end
+   of the CNAME chain was received in a response. But a server may send CNAME RRsets of many
+   records. Each of these RRsets is stored if it has at most 16,384 octets of rdata. An answer that
+   contains such an RRset may need a larger buffer, and if the buffer is too small, the call returns
+   RRCACHE_SMALL. If all RRsets of a look-up's answer were received in responses, a buffer of 1 MiB
+   is large enough for them. An answer of `rrcache_store` may also need a larger buffer if the type
+   of the query is ANY or is not kept, such as RRSIG, or if an RRset has more than 16,384 octets of
+   rdata. If the buffer is too small for the answer of `rrcache_store`, the call still stores
+   everything, and the answer contains the RRsets that fit. */
 enum { RRCACHE_ANSWER_OCTETS = 65536 };
 
 /* The answer to a question: a list of RRsets, which `rrcache_next` returns one by one, and a kind.
    An answer has at most RRCACHE_MOST_ALIASES + 1 RRsets, and with DNAME RRsets up to
-   RRCACHE_MOST_ALIASES more. An answer of `rrcache_store` may have more RRsets if the query is of
-   type ANY or of a type that is not kept. The caller sets `buffer` and its size `room`, sets
+   RRCACHE_MOST_ALIASES more. If the type of the query is ANY or is not kept, an answer of
+   `rrcache_store` may have more RRsets. The caller sets `buffer` and its size `room`, sets
    `with_dnames` to get DNAME RRsets, and initializes the other fields to 0. */
 struct rrcache_answer {
     uint8_t *buffer;
@@ -195,12 +196,12 @@ struct rrcache_answer {
     bool is_endless;         /* the CNAME chain is a loop, or has more than RRCACHE_MOST_ALIASES
                                 records. `kind` is then RRCACHE_MISS, and a query to a server will
                                 not help */
-    bool with_dnames;        /* set by the caller. If true, each CNAME record that was synthesized
-                                from a DNAME record is preceded by the DNAME RRset, if that RRset is
+    bool with_dnames;        /* set by the caller. If true, the DNAME RRset from which a CNAME
+                                record was synthesized precedes this record, if the DNAME RRset is
                                 cached or is in the response (RFC 6672 section 3.1). For each
-                                answer, up to 16 possible owners of DNAME RRsets are looked up, and
-                                each counts as one more look-up */
-    uint64_t retry_from;     /* with RRCACHE_FAILED, the timestamp from which to try again, and
+                                answer, the library looks up at most 16 possible owners of DNAME
+                                RRsets, and each counts as one more look-up */
+    uint64_t retry_from;     /* with RRCACHE_FAILED, the timestamp from which to try again;
                                 otherwise 0. For a stale answer after a failure of the question, a
                                 second look-up with RRCACHE_NO_STALE returns this timestamp */
     struct rrcache_name end; /* the name at the end of the CNAME chain. With RRCACHE_MISS, it is the
@@ -208,9 +209,9 @@ struct rrcache_answer {
                                 RRset */
 };
 
-/* An RRset of an answer, in the form that `rrcache_compose_response` takes. In a negative answer,
-   the last RRset is the SOA record, which belongs in the authority section. Initialize this struct
-   to zeros. */
+/* An RRset of an answer, in the form that `rrcache_compose_response` requires. In a negative
+   answer, the last RRset is the SOA record, which belongs in the authority section. Initialize this
+   struct to zeros. */
 struct rrcache_rrset {
     struct rrcache_parsed_set set; /* its `ttl` is the TTL for the client: the remaining TTL, or 30
                                       if the RRset is stale. Each RRset of a CNAME chain has its own
@@ -234,7 +235,7 @@ struct rrcache_rrset {
 struct rrcache_report {
     struct rrcache_summary summary; /* RCODE, AA and TC of the response, and its kind */
     struct rrcache_counts counts;
-    uint64_t too_large;       /* the number of RRsets and negative answers that were left out,
+    uint64_t too_large;       /* the number of RRsets and negative answers that were left out
                                  because each would use more memory than a shelf may use */
     struct rrcache_name name; /* the zone of a referral, or the target of an alias; otherwise
                                  zeros */
@@ -249,7 +250,7 @@ struct rrcache_stats {
     uint64_t misses;    /* look-ups without an answer and without a recent failure */
     uint64_t failed;    /* look-ups without an answer, after a recent failure */
     uint64_t kept;      /* RRsets, negative answers and failures that were stored */
-    uint64_t outranked; /* RRsets and negative answers that were not stored, because data of higher
+    uint64_t outranked; /* RRsets and negative answers that were not stored because data of higher
                            rank were cached */
     uint64_t evicted;   /* keys that were evicted to meet the limit of octets or of keys */
     uint64_t expired;   /* keys that sweeps removed */
@@ -257,15 +258,15 @@ struct rrcache_stats {
     uint64_t octets;    /* octets of memory that these keys use */
 };
 
-/* A buffer of this size has room for the text of every `struct rrcache_stats`. */
+/* A buffer of this size is large enough for the text of any `struct rrcache_stats`. */
 enum { RRCACHE_STATS_OCTETS = 384 };
 
 /* The callback to which `rrcache_stop_recording_all` and `rrcache_dump` write. Each call passes
    `size` octets of the text of one shelf; `shelf` is the number of that shelf, counted from 0. The
-   callback must process all these octets, and returns 0 to continue or nonzero to stop. `state` is
-   the pointer that the caller passed. During the callback, the library holds no lock of a shelf,
-   but it holds the lock that guards the start and the end of recording. A call that takes this lock
-   again would never return. So the callback must not call any function on this cache. The callback
+   callback must process all these octets, and must return 0 to continue or nonzero to stop. `state`
+   is the pointer that the caller passed. During the callback, the library holds no lock of a shelf,
+   but it holds the lock that guards the start and the end of recording. A call that waits for this
+   lock would never return, so the callback must not call any function on this cache. The callback
    must also return: its thread must not be canceled, and it must not call `longjmp` or throw a C++
    exception. */
 typedef int (*rrcache_shelf_sink)(void *state, uint64_t shelf, const void *octets, size_t size);
@@ -274,20 +275,20 @@ typedef int (*rrcache_shelf_sink)(void *state, uint64_t shelf, const void *octet
    zeros. Close the cache with `rrcache_close`.
 
    Returns RRCACHE_BAD_RULES if `octets`, `keys`, `shelves`, `readers` or `max_stale` is out of
-   range, RRCACHE_BAD_LIMITS if a limit is out of range, and RRCACHE_BAD_SEED if `seed` is all 0 and
-   the system provides no random octets. May also return RRCACHE_MEMORY. */
+   range, RRCACHE_BAD_LIMITS if a limit is out of range, and RRCACHE_BAD_SEED if `seed` is all zeros
+   and the system provides no random octets. May also return RRCACHE_MEMORY. */
 RRCACHE_API enum rrcache_status rrcache_open(struct rrcache **cache,
                                              const struct rrcache_config *config);
 
 /* Closes a cache, and frees all its memory. If `cache` is null, the call does nothing. */
 RRCACHE_API void rrcache_close(struct rrcache *cache);
 
-/* Looks up the answer to a question. The answer has the CNAME RRsets of the CNAME chain that begins
-   at the name of the question, and the reply for the name at the end of the chain: an RRset of the
-   type, a negative answer (RRCACHE_NODATA or RRCACHE_NXDOMAIN), or a miss (RRCACHE_MISS or
-   RRCACHE_FAILED). After a miss the answer still has the CNAME RRsets. At each name, the rule of
-   `rrcache_ask_alias` chooses between a CNAME record and data of the type (RFC 1034 section 4.3.2).
-   For a question of type CNAME, ANY, NSEC or RRSIG, no CNAME record is followed.
+/* Looks up the answer to a question. The answer contains the CNAME RRsets of the CNAME chain that
+   begins at the name of the question, and the reply for the name at the end of the chain: an RRset
+   of the type, a negative answer (RRCACHE_NODATA or RRCACHE_NXDOMAIN), or a miss (RRCACHE_MISS or
+   RRCACHE_FAILED). After a miss, the answer still contains the CNAME RRsets. At each name, the rule
+   of `rrcache_ask_alias` chooses between a CNAME record and data of the type (RFC 1034 section
+   4.3.2). For a question of type CNAME, ANY, NSEC or RRSIG, no CNAME record is followed.
 
    With the mode RRCACHE_STALE_IF_FAILED, stale data are acceptable for a name of the chain if
    resolution of the type has failed recently for that name (RFC 8767 section 5). If resolution of
@@ -296,10 +297,10 @@ RRCACHE_API void rrcache_close(struct rrcache *cache);
    stored after the failure. docs/RULES.md, "Serving stale data", describes the whole procedure,
    with the timers.
 
-   CNAME RRsets before a miss are not yet an answer for a client: the resolver continues to resolve
-   from `end`, and answers SERVFAIL if it cannot resolve that name. The cache does not combine
-   queries: if the look-ups of several clients miss with the same `end` and type, the caller itself
-   has to send a single query for all of them.
+   CNAME RRsets before a miss are not yet an answer for a client: the resolver has to resolve `end`
+   next, and answers SERVFAIL if it cannot resolve that name. The cache does not combine queries: if
+   the look-ups of several clients miss with the same `end` and type, the caller itself has to send
+   a single query for all of them.
 
    Returns RRCACHE_BAD_NAME if the name is not in wire form, RRCACHE_BAD_CHOICE if `mode` is not a
    value of `enum rrcache_mode`, RRCACHE_BAD_TYPE if the type is 0 or the class is not kept, and
@@ -309,8 +310,8 @@ RRCACHE_API enum rrcache_status rrcache_lookup(struct rrcache *cache,
                                                const struct rrcache_request *request,
                                                struct rrcache_answer *answer);
 
-/* Looks up the deepest unexpired NS RRset at or above a name. A resolver can start with the
-   servers that this RRset names (RFC 1034 section 5.3.3, RFC 9156 section 2). The answer has this
+/* Looks up the deepest unexpired NS RRset at or above a name. A resolver can start with the servers
+   that this RRset names (RFC 1034 section 5.3.3, RFC 9156 section 2). The answer contains this
    RRset, and `end` is its owner. If there is no such RRset, `kind` is RRCACHE_MISS. The fields
    `rtype`, `mode` and `takes_glue` of the request are ignored. The DS RRset of a zone is in the
    parent zone (RFC 4035 section 2.4). So for a question of type DS, pass the name without its first
@@ -319,9 +320,9 @@ RRCACHE_API enum rrcache_status rrcache_lookup_delegation(struct rrcache *cache,
                                                           const struct rrcache_request *request,
                                                           struct rrcache_answer *answer);
 
-/* Gets the next RRset of an answer, or the first one if `rrset` is zeros. Returns true if there is
-   an RRset. At the end of the answer, returns false and sets `rrset` to zeros again. The pointers
-   in `rrset` point into the buffer of the answer. */
+/* Gets the next RRset of an answer, or the first RRset if `rrset` is zeros. Returns true if there
+   is an RRset. At the end of the answer, returns false and sets `rrset` to zeros again. The
+   pointers in `rrset` point into the buffer of the answer. */
 RRCACHE_API bool rrcache_next(const struct rrcache_answer *answer, struct rrcache_rrset *rrset);
 
 /* Reads the response to a query as `rrcache_read_response` does, and stores the RRsets, the
@@ -329,67 +330,67 @@ RRCACHE_API bool rrcache_next(const struct rrcache_answer *answer, struct rrcach
    of its name. An RRset or a negative answer that would use more memory than one shelf may use is
    left out. If a limit of `response` is 0, the limit of the cache applies.
 
-   Returns RRCACHE_OTHER_QUERY if the octets do not answer the query: the caller then drops them and
-   keeps waiting (RFC 5452 section 9.1). RRCACHE_NO_QUESTION and, unless TC is set,
-   RRCACHE_BAD_MESSAGE mean that the server has failed; nothing is stored. A response with an RCODE
-   other than NOERROR and NXDOMAIN, such as SERVFAIL, is stored as a failure of its question. So
-   pass such a response only when no other server is left to ask. The RCODE is in the low four bits
-   of the fourth octet of the response. From a truncated response (TC set) nothing is stored: send
-   the query again over TCP. If a truncated response ends inside a record, the call returns
-   RRCACHE_BAD_MESSAGE. So if TC is set (0x02 of the third octet), RRCACHE_BAD_MESSAGE does not mean
-   that the server has failed.
+   Returns RRCACHE_OTHER_QUERY if the octets do not answer the query: the caller then has to drop
+   them and keep waiting (RFC 5452 section 9.1). RRCACHE_NO_QUESTION and, unless TC is set,
+   RRCACHE_BAD_MESSAGE mean that the server has failed; the call then stores nothing. A response
+   with an RCODE other than NOERROR and NXDOMAIN, such as SERVFAIL, is stored as a failure of its
+   question. So pass such a response only when no other server is left to ask. The RCODE is in the
+   low four bits of the fourth octet of the response. The call stores nothing from a truncated
+   response (TC set): send the query again over TCP. If a truncated response ends inside a record,
+   the call returns RRCACHE_BAD_MESSAGE. So if TC is set (0x02 of the third octet),
+   RRCACHE_BAD_MESSAGE does not mean that the server has failed.
 
    To read a response without storing it, call `rrcache_read_response` with a `struct rrcache_parts`
-   of one part and any seed that is not zeros, and with limits that are not 0. That call compares
-   the response with the query as `rrcache_store` does. Then `rrcache_tell_response` returns the
-   kind and RCODE, and `rrcache_tell_offer` returns each relevant RRset, even one with TTL 0. In
-   this way, a resolver with several servers to ask can see that one of them has failed, without
-   storing a failure.
+   of one part and any seed other than zeros, and with limits that are not 0. That call compares the
+   response with the query as `rrcache_store` does. Then `rrcache_tell_response` returns the kind
+   and RCODE, and `rrcache_tell_offer` returns each relevant RRset, even one with TTL 0. In this
+   way, a resolver with several servers to ask can see that one of them has failed, without storing
+   a failure.
 
    The RRsets of a referral are stored, but are not in `answer`. `name` of `report` is the zone of
    the referral, `rrcache_lookup_delegation` returns the NS RRset, and look-ups with `takes_glue`
    return the addresses. NS RRsets and addresses with TTL 0 are not stored, so look-ups do not find
    them: read such a referral without storing it, as described above. An NS RRset with unequal TTLs
    is left out, unless `lowest_ttl` is set. The NS RRset of a referral has the lowest rank. If
-   somebody asked for the zone before it was delegated, the cache may have an NXDOMAIN of the zone,
-   or a NODATA of the zone for type NS. As long as that negative answer is unexpired,
-   `rrcache_lookup_delegation` finds only the NS RRset of a zone above, or none. If it finds none
-   below the zone whose server was asked, call `rrcache_forget` with type NS for the zone of the
-   referral, and store the response again.
+   somebody asked for the zone before it was delegated, the cache may hold an NXDOMAIN for the name
+   of the zone, or a NODATA for this name and type NS. As long as that negative answer is unexpired,
+   `rrcache_lookup_delegation` finds only the NS RRset of a zone above, or none. If it finds no NS
+   RRset below the zone whose server was asked, call `rrcache_forget` with type NS for the zone of
+   the referral, and store the response again.
 
    `answer` may be null. Otherwise, the call fills `answer` with the answer that the response itself
-   gives, including data that are not stored: data with TTL 0, data that are too large, and data of
-   lower rank than the cached data. So a waiting client gets the data that the server sent. An RRset
-   with unequal TTLs is left out of `answer` too, if AA is clear and `lowest_ttl` is not set. `kind`
-   of `answer` is then RRCACHE_MISS if that RRset has the data of the type, or a CNAME record that
-   leads to them. For a query of type ANY, `answer` has all RRsets of the name that are not left out
-   in this way, although a look-up of type ANY never returns them. To fill `answer`, the call
-   follows at most RRCACHE_MOST_ALIASES CNAME records, and returns RRsets of any size. The limits on
-   what is relevant, and therefore stored, are lower: fewer CNAME records are followed, and only
-   smaller RRsets are relevant. In `answer`, rdata of types A and AAAA may have any length. If the
-   query is of a type that is not kept, such as NAPTR, each record is returned as an RRset of its
-   own, and RRCACHE_NODATA means that an SOA record denies the type. If the query is of type NSEC or
-   RRSIG, and the response has such records of the name of the query, `answer` has these records,
-   and no CNAME record is followed, even if the kind of the response is RRCACHE_RESPONSE_ALIAS.
-   `kind` is RRCACHE_MISS if only `report` has the result, as for a negative response without an SOA
-   record.
+   contains, including data that are not stored: data with TTL 0, data that are too large, and data
+   of lower rank than the cached data. So a waiting client gets the data that the server sent. If AA
+   is clear and `lowest_ttl` is not set, an RRset with unequal TTLs is left out of `answer` too. If
+   that RRset contains the data of the type, or a CNAME record that leads to them, `kind` of
+   `answer` is then RRCACHE_MISS. For a query of type ANY, `answer` contains all RRsets of the name
+   that are not left out in this way, although a look-up of type ANY never returns them. To fill
+   `answer`, the call follows at most RRCACHE_MOST_ALIASES CNAME records, and returns RRsets of any
+   size. The limits on what is relevant, and therefore stored, are lower: fewer CNAME records are
+   followed, and only smaller RRsets are relevant. In `answer`, rdata of types A and AAAA may have
+   any length. If the query is of a type that is not kept, such as NAPTR, each record is returned as
+   an RRset of its own, and RRCACHE_NODATA means that an SOA record denies the type. If the query is
+   of type NSEC or RRSIG, and the response has such records of the name of the query, `answer`
+   contains these records. No CNAME record is then followed, even if the kind of the response is
+   RRCACHE_RESPONSE_ALIAS. If only `report` contains the result, as for a negative response without
+   an SOA record, `kind` is RRCACHE_MISS.
 
-   If the response has only the beginning of a CNAME chain, its kind is RRCACHE_RESPONSE_ALIAS, and
-   `kind` of the answer is RRCACHE_MISS. Keep the CNAME RRsets of this answer, and look up `end`
+   If the response contains only the beginning of a CNAME chain, its kind is RRCACHE_RESPONSE_ALIAS,
+   and `kind` of the answer is RRCACHE_MISS. Keep the CNAME RRsets of this answer, and look up `end`
    next. Do not look up the name of the query again: if a CNAME record of the chain has TTL 0, it is
    not stored, and the look-up is a miss again.
 
-   Look at `kind` of the answer first, and at the kind of the response only if the answer is a miss,
+   Check `kind` of the answer first. Check the kind of the response only if the answer is a miss,
    because records of a type that is not kept do not affect the kind of a response. If the query is
-   of such a type, the kind of a response that has or denies the data is usually
+   of such a type, and the response contains or denies the data, the kind of the response is usually
    RRCACHE_RESPONSE_UNUSABLE or, if a CNAME record leads to the data, RRCACHE_RESPONSE_ALIAS.
 
    Also returns RRCACHE_BAD_LIMITS if a limit is out of range, and RRCACHE_BAD_NAME if the zone or
    the name of the query is not in wire form. After these errors, `report` is unmodified. Once the
-   response has been read, `report` is written, even if the call then fails with
-   RRCACHE_HISTORY_FULL, RRCACHE_MOMENT_TOO_LARGE or RRCACHE_MEMORY. Two errors are returned only
-   after everything is stored: RRCACHE_SMALL if the buffer of the answer is too small, and
-   RRCACHE_BAD_DATA if a record whose type is not kept cannot be read. */
+   call has read the response, it writes `report`, even if it then fails with RRCACHE_HISTORY_FULL,
+   RRCACHE_MOMENT_TOO_LARGE or RRCACHE_MEMORY. The call returns two errors only after it has stored
+   everything: RRCACHE_SMALL if the buffer of the answer is too small, and RRCACHE_BAD_DATA if a
+   record whose type is not kept cannot be read. */
 RRCACHE_API enum rrcache_status rrcache_store(struct rrcache *cache,
                                               const struct rrcache_query *query,
                                               const struct rrcache_response *response,
@@ -422,9 +423,9 @@ RRCACHE_API enum rrcache_status rrcache_store_failure(struct rrcache *cache,
    NXDOMAIN of the name. With type ANY (255), the call removes the data of every type. To do so, the
    call tries each type in turn, which takes about 10 milliseconds, and releases the lock of the
    shelf after every 256 types. Data that other threads store for the name in the meantime may
-   remain. The first time that a failure is removed from a shelf, the call takes as long as the
-   first sweep of the shelf, which visits all its keys. The fields `mode` and `takes_glue` of the
-   request are ignored. No call removes the data of all names below a name: docs/RULES.md,
+   remain. If a shelf has never been swept, the first call that removes a failure from it takes as
+   long as a first sweep, which visits all keys of the shelf. The fields `mode` and `takes_glue` of
+   the request are ignored. No call removes the data of all names below a name: docs/RULES.md,
    "Flushing", says what to do instead.
 
    Returns RRCACHE_BAD_NAME if the name is not in wire form, and RRCACHE_BAD_TYPE if the type is 0
@@ -434,16 +435,16 @@ RRCACHE_API enum rrcache_status rrcache_store_failure(struct rrcache *cache,
 RRCACHE_API enum rrcache_status rrcache_forget(struct rrcache *cache,
                                                const struct rrcache_request *request);
 
-/* Removes fully expired keys until at least `most` keys are removed or no such key is left. A key
-   is fully expired if its entry can answer no question at `moment`, not even as stale data. `most`
-   is at least 1. The call writes to `swept` how many keys it removed, and whether no fully expired
-   key is left. A sweep continues in the shelf in which the last sweep ended. The call releases the
-   locks of a shelf after every 64 keys, and lets threads that wait for these locks go first. There
-   are two exceptions: keys that expire in the same second are removed together, and the first sweep
-   of a shelf visits all its keys. A caller need not sweep, because eviction makes room. A sweep at
-   the timestamp 2^40 removes each key whose entry has a timestamp below 2^40 - 2^32, so a caller
-   with a clock such as CLOCK_BOOTTIME can empty the cache in this way. Later calls may pass smaller
-   timestamps.
+/* Removes fully expired keys until it has removed at least `most` keys or no such key is left. A
+   key is fully expired if its entry can answer no question at `moment`, not even as stale data.
+   `most` must be at least 1. The call writes to `swept` how many keys it removed, and whether no
+   fully expired key is left. A sweep continues in the shelf in which the previous sweep ended. The
+   call releases the locks of a shelf after every 64 keys, and lets threads that wait for these
+   locks go first. There are two exceptions: keys that expire in the same second are removed
+   together, and the first sweep of a shelf visits all its keys. A caller need not sweep, because
+   eviction makes room. A sweep at the timestamp 2^40 removes each key whose entry has a timestamp
+   below 2^40 - 2^32, so a caller with a clock such as CLOCK_BOOTTIME can empty the cache in this
+   way. Later calls may pass smaller timestamps.
 
    Returns RRCACHE_BAD_RULES if `most` is 0. May also return RRCACHE_MOMENT_TOO_LARGE,
    RRCACHE_HISTORY_FULL or RRCACHE_MEMORY; `swept` then has the number of keys that were removed
@@ -458,9 +459,9 @@ RRCACHE_API enum rrcache_status rrcache_sweep_all(struct rrcache *cache, uint64_
 #pragma GCC diagnostic ignored "-Wshadow"
 #endif
 
-/* Writes to `stats` the sums of the counters of all shelves since the cache was opened, and of the
-   keys and octets that the shelves hold. The call reads one shelf after another. While it reads a
-   shelf, look-ups in that shelf wait, as they wait for a store. */
+/* Writes to `stats` the sums over all shelves: of the counters since the cache was opened, and of
+   the keys and octets that the shelves hold now. The call reads one shelf after another. While it
+   reads a shelf, look-ups in that shelf wait, as they wait for a store. */
 RRCACHE_API enum rrcache_status rrcache_stats(struct rrcache *cache, struct rrcache_stats *stats);
 
 #if defined __cplusplus && defined __GNUC__
@@ -472,8 +473,9 @@ RRCACHE_API enum rrcache_status rrcache_stats(struct rrcache *cache, struct rrca
 RRCACHE_API enum rrcache_status rrcache_stats_of(struct rrcache *cache, uint64_t shelf,
                                                  struct rrcache_stats *stats);
 
-/* Writes counters to `text` as one line for a log, `hits 12 stale 0 ..`, which ends with a zero
-   octet and has no LF. Returns RRCACHE_SMALL if the text does not fit into `size` octets. */
+/* Writes the counters of `stats` to `text` as one line for a log, for example `hits 12 stale 0 ..`.
+   The line ends with a zero octet, and has no LF. Returns RRCACHE_SMALL if the text does not fit
+   into `size` octets. */
 RRCACHE_API enum rrcache_status rrcache_stats_text(const struct rrcache_stats *stats, char *text,
                                                    size_t size);
 
@@ -486,9 +488,9 @@ RRCACHE_API enum rrcache_status rrcache_stats_text(const struct rrcache_stats *s
 RRCACHE_API enum rrcache_status rrcache_record_all(struct rrcache *cache);
 
 /* Stops recording, and writes the archive of each shelf, which is the text of its history, to
-   `sink`, one shelf after another. Each shelf goes on recording until its turn comes. So while a
-   slow sink writes the archives of earlier shelves, the events of later shelves still take memory.
-   If nothing is being recorded, nothing is written. Returns RRCACHE_SINK if the sink returns
+   `sink`, one shelf after another. Each shelf continues to record until its turn. So while a slow
+   sink writes the archives of earlier shelves, the events of later shelves still take memory. If
+   nothing is being recorded, the call writes nothing. Returns RRCACHE_SINK if the sink returns
    nonzero. May also return RRCACHE_HISTORY_FULL or RRCACHE_MEMORY. After any of these errors,
    recording has stopped, and the histories that were not written are dropped. */
 RRCACHE_API enum rrcache_status rrcache_stop_recording_all(struct rrcache *cache,
@@ -496,14 +498,14 @@ RRCACHE_API enum rrcache_status rrcache_stop_recording_all(struct rrcache *cache
 
 /* Writes the contents of each shelf to `sink`, one shelf after another, in the form in which a
    chapter (segment) of an archive begins (docs/FORMATS.md). The text of a shelf shows its contents
-   at one point in time: other calls on the shelf wait while its keys are listed. The call allocates
-   memory for the keys of one shelf at a time. No call reads these contents back into a cache. But a
-   caller can store each entry in a new cache, with the rank, TTL and timestamp of its line, in the
-   order of the event numbers. After a restart of the machine, CLOCK_BOOTTIME begins at zero again,
-   so the caller must first convert the timestamps (docs/RULES.md, "Listing and saving keys").
-   docs/CAPTURES.md, "A wrong answer", says what a dump shows about an answer. Returns
-   RRCACHE_HAS_CHAPTERS while histories are being recorded, and RRCACHE_SINK if the sink returns
-   nonzero. May also return RRCACHE_HISTORY_FULL or RRCACHE_MEMORY. */
+   at one point in time, because other calls on the shelf wait while the call lists its keys. The
+   call allocates memory for the keys of one shelf at a time. No call reads these contents back into
+   a cache. But a caller can store each entry in a new cache, with the rank, TTL and timestamp of
+   its line, in the order of the event numbers. After a restart of the machine, CLOCK_BOOTTIME
+   begins at zero again, so the caller must first convert the timestamps (docs/RULES.md, "Listing
+   and saving keys"). docs/CAPTURES.md, "A wrong answer", says what a dump shows about an answer.
+   Returns RRCACHE_HAS_CHAPTERS while histories are being recorded, and RRCACHE_SINK if the sink
+   returns nonzero. May also return RRCACHE_HISTORY_FULL or RRCACHE_MEMORY. */
 RRCACHE_API enum rrcache_status rrcache_dump(struct rrcache *cache, rrcache_shelf_sink sink,
                                              void *state);
 
