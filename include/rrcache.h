@@ -175,10 +175,10 @@ enum { RRCACHE_MOST_ALIASES = 16 };
    records. Each of these RRsets is stored if it has at most 16,384 octets of rdata. An answer that
    contains such an RRset may need a larger buffer, and if the buffer is too small, the call returns
    RRCACHE_SMALL. If all RRsets of a look-up's answer were received in responses, a buffer of 1 MiB
-   is large enough for them. An answer of `rrcache_store` may also need a larger buffer if the type
-   of the query is ANY or is not kept, such as RRSIG, or if an RRset has more than 16,384 octets of
-   rdata. If the buffer is too small for the answer of `rrcache_store`, the call still stores
-   everything, and the answer contains the RRsets that fit. */
+   is large enough for them. An answer of `rrcache_store` may need more than RRCACHE_ANSWER_OCTETS
+   in two more cases: if the type of the query is ANY or a type that is not kept, such as RRSIG, or
+   if an RRset has more than 16,384 octets of rdata. If the buffer is too small for the answer of
+   `rrcache_store`, everything is still stored, and the answer contains the RRsets that fit. */
 enum { RRCACHE_ANSWER_OCTETS = 65536 };
 
 /* The answer to a question: a list of RRsets, which `rrcache_next` returns one by one, and a kind.
@@ -320,8 +320,8 @@ RRCACHE_API enum rrcache_status rrcache_lookup_delegation(struct rrcache *cache,
                                                           const struct rrcache_request *request,
                                                           struct rrcache_answer *answer);
 
-/* Gets the next RRset of an answer, or the first RRset if `rrset` is zeros. Returns true if there
-   is an RRset. At the end of the answer, returns false and sets `rrset` to zeros again. The
+/* Gets the next RRset of an answer, or the first RRset if `*rrset` is all zeros. Returns true if
+   there is an RRset. At the end of the answer, returns false and sets `*rrset` to zeros again. The
    pointers in `rrset` point into the buffer of the answer. */
 RRCACHE_API bool rrcache_next(const struct rrcache_answer *answer, struct rrcache_rrset *rrset);
 

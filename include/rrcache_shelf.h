@@ -17,11 +17,11 @@
    for the RRset or NODATA of this type; a name and a class, for the NXDOMAIN; and a name, a class
    and a type, for the resolution failure of this type. An *entry* is the RRset, negative answer or
    failure that a key holds. To *offer* data is to pass them to a shelf, which decides whether to
-   store them (`enum rrcache_outcome`). An *ask* looks up an answer, and moves the entry that gives
-   the answer to the front of the LRU order. A *peek* looks up an answer but changes nothing. A
-   *part* consists of all names that belong to one shelf, and has the same number as the shelf,
-   counted from 0. A type or a class is *kept* if the library stores its data; the library skips
-   data of all other types and classes.
+   store them (`enum rrcache_outcome`). An *ask* looks up an answer. The entry that gives the answer
+   moves to the front of the LRU order. A *peek* looks up an answer but changes nothing. A *part*
+   consists of all names that belong to one shelf, and has the same number as the shelf, counted
+   from 0. A type or a class is *kept* if the library stores its data; the library skips data of all
+   other types and classes.
 
    docs/RULES.md describes the rules of the cache. Some names in this header differ from the terms
    on that page: a `moment` is a timestamp, `trust` is a rank, `left` is a remaining TTL, and `data`
