@@ -52,13 +52,13 @@
      error. No call takes more than one shelf, so no call needs the locks of two shelves.
    - These calls on offers take no shelf, and need no lock of a shelf: `rrcache_read_response`,
      `rrcache_read_message_unchecked`, `rrcache_tell_response`, `rrcache_tell_offer` and
-     `rrcache_free_offers`. Only one call at a time may use a handle of offers. This also applies to
-     `rrcache_offer_read` and `rrcache_offer_one`: while they run, they write to the handle of the
-     offers as well as to the handle of the shelf.
+     `rrcache_free_offers`. Only one call at a time may use a handle for offers. This applies also
+     to `rrcache_offer_read` and `rrcache_offer_one`: while they run, they write to the handle of
+     the offers as well as to the handle of the shelf.
    - `rrcache_take_chapters` and `rrcache_stop_recording` need the write lock of the shelf. These
      calls on taken chapters need neither the shelf nor a lock: `rrcache_chapter_line`,
      `rrcache_write_line`, `rrcache_write_chapter` and `rrcache_free_chapters`. While they run,
-     other threads may use or free the shelf. Only one call at a time may use a handle of chapters.
+     other threads may use or free the shelf. Only one call at a time may use a handle for chapters.
    - `rrcache_fault`, `rrcache_make_name`, `rrcache_compose_response` and `rrcache_tell_octets` take
      no handle and need no lock.
    - No call waits, sleeps or takes a lock, unless malloc, realloc, free or the caller's sink does
@@ -463,21 +463,21 @@ enum rrcache_message_fault {
     RRCACHE_LONG_MESSAGE = 8      /* there are more than 65,535 octets */
 };
 
-/* A handle of a shelf. Initialize the handle to zeros; `rrcache_make` makes its shelf. */
+/* A handle for a shelf. Initialize the handle to zeros; `rrcache_make` makes its shelf. */
 struct rrcache_shelf {
     void *at;
     bool is_live;
     uint64_t seed[2];
 };
 
-/* A handle of the offers of a message. Initialize the handle to zeros; `rrcache_read_response`
+/* A handle for the offers of a message. Initialize the handle to zeros; `rrcache_read_response`
    fills it. */
 struct rrcache_offers {
     void *at;
     bool is_live;
 };
 
-/* A handle of chapters that were taken from a shelf. Initialize the handle to zeros;
+/* A handle for chapters that were taken from a shelf. Initialize the handle to zeros;
    `rrcache_take_chapters` fills it. */
 struct rrcache_chapters {
     void *at;
@@ -1040,7 +1040,7 @@ static inline bool rrcache_touch(const void *one, size_t one_size, const void *o
            || rrcache_overlap(other, other_size, read, read_size);
 }
 
-/* Whether memory that a call on a shelf reads or writes overlaps the handle of the shelf. */
+/* Whether the handle of a shelf overlaps memory that a call on this shelf reads or writes. */
 static inline bool rrcache_holds(const struct rrcache_shelf *shelf, const void *octets, size_t size)
 {
     return rrcache_overlap(shelf, sizeof *shelf, octets, size);

@@ -1,5 +1,5 @@
 // SPDX-License-Identifier: MIT
-//! Finds the library for C, and makes cargo link with it. The library is in the folder that
+//! Finds the C library, and makes cargo link with it. The library is in the folder that
 //! `RRCACHE_LIB_DIR` names, otherwise in the one that pkg-config names, otherwise in `build/` of
 //! the checkout that contains this crate.
 

@@ -3,10 +3,10 @@
 bin/test runs all.
 
   rows       worked traces with their reports
-  c          the library for C
+  c          the C library
   forwarder  the forwarder of examples/forwarder
-  python     the package for Python
-  install    the library for C as bin/install-c installs it
+  python     the Python package
+  install    the C library as bin/install-c installs it
   tools      from-capture, what-if, why, fuzz, the model of the rules, and the program's options
   captures   a capture that the tools are tested on
   archives   audits of archives that the model of the rules makes

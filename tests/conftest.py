@@ -40,7 +40,7 @@ def program(request):
 
 @pytest.fixture(scope="session")
 def library():
-    """The shared library for C that was built last, or is built now."""
+    """The shared C library that was built last, or is built now."""
     if not LIBRARY.exists():
         subprocess.run([TOP / "bin" / "build-c"], check=True)
     return LIBRARY

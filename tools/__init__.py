@@ -19,5 +19,5 @@ build-times has how long each crate takes, for bin/build, and proof-times prints
 import sys
 from pathlib import Path
 
-# Names and archives are read by the package for Python, which lies there.
+# Names and archives are read by the Python package, which lies there.
 sys.path.insert(0, str(Path(__file__).resolve().parents[1] / "python"))

@@ -1,6 +1,6 @@
 # SPDX-License-Identifier: MIT
 """Audits of archives (docs/FORMATS.md) by the model of the rules (model.py): whether the history in
-an archive is legal, and if not, what is wrong with it first. The package for Python reads them.
+an archive is legal, and if not, what is wrong with it first. The Python package reads them.
 """
 from typing import NamedTuple
 

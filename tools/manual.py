@@ -1,5 +1,5 @@
 # SPDX-License-Identifier: MIT
-"""The man pages of the library for C, made of the headers' own comments (include/), so that the two
+"""The man pages of the C library, made of the headers' own comments (include/), so that the two
 cannot differ. bin/install-c installs them.
 
 `pages()` returns each page by the name of its file: rrcache(3) and rrcache_shelf(3), each of the

@@ -1,5 +1,5 @@
 # SPDX-License-Identifier: MIT
-"""The version of the library for C, which the file VERSION has, and the name under which a program
+"""The version of the C library, which the file VERSION has, and the name under which a program
 looks for a shared library of that major version."""
 from pathlib import Path
 

@@ -1,5 +1,5 @@
 /* SPDX-License-Identifier: MIT */
-/* c_threads THREADS CALLS shared|own ask|put|both: times the library for C. THREADS threads
+/* c_threads THREADS CALLS shared|own ask|put|both: times the C library. THREADS threads
    together make CALLS calls on 16 shelves. With `shared`, each shelf has a lock, and each thread
    picks the shelf of each name. With `own`, each thread has 16 shelves of its own and takes no
    lock. The time of an ask includes the making of the name, for which no lock is held. The program

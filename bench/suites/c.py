@@ -1,5 +1,5 @@
 # SPDX-License-Identifier: MIT
-"""Times the library for C: asks and puts by threads of C, and asks through Python.
+"""Times the C library: asks and puts by threads of C, and asks through Python.
 
 It takes the library as bin/build-c made it and compiles bench/c/c_threads.c. The threads have
 shelves of their own, and shared ones under locks. Each number is the best of RUNS runs of CALLS
@@ -14,7 +14,7 @@ from itertools import product
 from bench.page import filled, of_threads, table, write_section
 from bench.setup import ARCHIVE, SOURCES, compiled, ran, undisturbed
 
-NEEDS, TITLE = (ARCHIVE,), "The library for C"
+NEEDS, TITLE = (ARCHIVE,), "The C library"
 OPTIONS = {
     "calls": (1_000_000, "calls of each run"), "threads": ([1, 2, 4], "threads"),
     "runs": (3, "runs of each"),

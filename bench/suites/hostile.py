@@ -1,7 +1,7 @@
 # SPDX-License-Identifier: MIT
 """Tells what hostile messages, names and traces cost: octets of memory, and time.
 
-RRCACHE_LIBRARY may name another library for C, and RRCACHE_PROGRAM another program, which traces
+RRCACHE_LIBRARY may name another C library, and RRCACHE_PROGRAM another program, which traces
 are for. Each message has no more than SIZE octets and is offered to an empty shelf. A shelf records
 its history where events or chapters are measured, and nowhere else. What stays is what the C
 library's allocator has given out more than before (mallinfo2, of glibc). Times are milliseconds of

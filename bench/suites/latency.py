@@ -1,7 +1,7 @@
 # SPDX-License-Identifier: MIT
 """Tells how long clients wait while another asks for names of a hostile server.
 
-Build the library for C first, by `bin/build-c`. The clients are those of the forwarder
+Build the C library first, by `bin/build-c`. The clients are those of the forwarder
 (examples/forwarder), and everything runs on loopback. OTHERS clients ask for names that are cached,
 RATE queries a second together, and their waits are taken. Meanwhile one client asks for ATTACK
 names a second that nobody asked for before, all answered by a name server of this process, by one

@@ -1,5 +1,5 @@
 # SPDX-License-Identifier: MIT
-"""Times the library for C beside unbound's RRset cache: the same work by the same program.
+"""Times the C library beside unbound's RRset cache: the same work by the same program.
 
 It takes the library as bin/build-c made it, fetches the source package of Debian's unbound into
 build/unbound (apt-get with lists of its own; nothing is installed), builds it (2 minutes; it needs

@@ -1,5 +1,5 @@
 /* SPDX-License-Identifier: MIT */
-/* A DNS forwarder over UDP and TCP, IPv4 and IPv6, as an example of the library for C. README.md
+/* A DNS forwarder over UDP and TCP, IPv4 and IPv6, as an example of the C library. README.md
    has the path of a query, and `--help` lists the options.
 
    main.c       threads, each of which polls all sockets, and what is done with a query

@@ -1,5 +1,5 @@
 # SPDX-License-Identifier: MIT
-"""The enumerations of the cache, with the numbers of the library for C."""
+"""The enumerations of the cache, with the numbers of the C library."""
 from enum import IntEnum
 
 

@@ -1,5 +1,5 @@
 # SPDX-License-Identifier: MIT
-"""The library for C, through ctypes: its file, the arguments of its functions, and the calls that
+"""The C library, through ctypes: its file, the arguments of its functions, and the calls that
 need no shelf."""
 from __future__ import annotations
 

@@ -1,5 +1,5 @@
 # SPDX-License-Identifier: MIT
-"""The exceptions that calls raise. There is one for each error status of the library for C."""
+"""The exceptions that calls raise. There is one for each error status of the C library."""
 from __future__ import annotations
 
 from enum import IntEnum

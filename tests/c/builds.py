@@ -1,5 +1,5 @@
 # SPDX-License-Identifier: MIT
-"""How the tests in C are compiled with the library for C, and run."""
+"""How the tests in C are compiled with the C library, and run."""
 import re
 import subprocess
 from pathlib import Path

@@ -1,5 +1,5 @@
 # SPDX-License-Identifier: MIT
-"""tests.c on the library for C as bin/build-c makes it: on the archive, on the shared library, on
+"""tests.c on the C library as bin/build-c makes it: on the archive, on the shared library, on
 the archive with each malloc and realloc refused in turn and those of calls that only look counted,
 and under the sanitizers of addresses and of undefined behaviour. Each header by itself, with the
 warnings that resolvers are compiled with."""

@@ -1,5 +1,5 @@
 # SPDX-License-Identifier: MIT
-"""cache_tests.c, of `struct rrcache`, on the library for C as tests.c runs on it (test_c.py). Under
+"""cache_tests.c, of `struct rrcache`, on the C library as tests.c runs on it (test_c.py). Under
 the sanitizers lib/*.c is compiled with the tests, in place of what the archive has of it. The
 archives that a cache writes are audited by the program, where it is built."""
 import subprocess

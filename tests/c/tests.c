@@ -1,5 +1,5 @@
 /* SPDX-License-Identifier: MIT */
-/* Tests of the library for C: each call on its happy path, each status that a caller can bring
+/* Tests of the C library: each call on its happy path, each status that a caller can bring
    about, at each call that can answer it, and what a refusal leaves. Two statuses are not met:
    RRCACHE_HISTORY_FULL asks for 2^62 events, and RRCACHE_WIDE for a datum that no call takes.
 

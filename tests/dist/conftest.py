@@ -38,6 +38,6 @@ def unpacked(release, tmp_path_factory):
 
 @pytest.fixture(scope="session")
 def crate(release, tmp_path_factory):
-    """What the archive of the crate for Rust has."""
+    """What the archive of the Rust crate has."""
     [archive] = release.glob("*-rust.tar.gz")
     return root_of(archive, tmp_path_factory.mktemp("crate"))

@@ -1,5 +1,5 @@
 # SPDX-License-Identifier: MIT
-"""The crate for Rust of a release, over the library of its archive."""
+"""The Rust crate of a release, over the library of its archive."""
 import os
 import subprocess
 

@@ -1,5 +1,5 @@
 # SPDX-License-Identifier: MIT
-"""Calls of the library for C are made with little stack."""
+"""Calls of the C library are made with little stack."""
 import concurrent.futures
 import threading
 

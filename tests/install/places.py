@@ -1,5 +1,5 @@
 # SPDX-License-Identifier: MIT
-"""A place that the library for C was installed to, and programs that are compiled with it as its
+"""A place that the C library was installed to, and programs that are compiled with it as its
 users do: by what pkg-config prints, and by CMake."""
 import os
 import shlex

@@ -1,5 +1,5 @@
 # SPDX-License-Identifier: MIT
-"""The library for C as bin/install-c installs it to a fresh folder.
+"""The C library as bin/install-c installs it to a fresh folder.
 
 What pkg-config prints, and what CMake finds, is enough to compile the examples: that of shelves in
 C and in C++, with the shared library and with the archive, which is run too, the stub resolver

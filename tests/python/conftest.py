@@ -5,4 +5,4 @@ import pytest
 from tests.forwarder.harness import BUILD
 
 if not (BUILD / "librrcache.so").exists():
-    raise pytest.UsageError("bin/build-c builds the library that the package for Python loads")
+    raise pytest.UsageError("bin/build-c builds the library that the Python package loads")

@@ -1,5 +1,5 @@
 # SPDX-License-Identifier: MIT
-"""What the package says of the library for C, compared with include/rrcache_shelf.h and
+"""What the package says of the C library, compared with include/rrcache_shelf.h and
 include/rrcache.h: its enumerations, structs, calls, numbers and words."""
 import re
 import shutil

@@ -1,5 +1,5 @@
 # SPDX-License-Identifier: MIT
-"""The crate for Rust (rust/) over the library for C in build/: cargo runs its tests, with the
+"""The Rust crate (rust/) over the C library in build/: cargo runs its tests, with the
 shared library and with the archive, and clippy, rustfmt and rustdoc find no fault. The build takes
 the library from the folders that README.md of the crate names, the examples do what they say, and
 memcheck sees no error.

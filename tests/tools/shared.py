@@ -1,5 +1,5 @@
 # SPDX-License-Identifier: MIT
-"""What tests of the tools share with those of archives, refusals and the package for Python."""
+"""What tests of the tools share with those of archives, refusals and the Python package."""
 import fcntl
 import io
 import os

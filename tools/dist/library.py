@@ -1,5 +1,5 @@
 # SPDX-License-Identifier: MIT
-"""What is installed of the library for C: headers, the archive and the shared library, what
+"""What is installed of the C library: headers, the archive and the shared library, what
 pkg-config and CMake read, and the man pages of section 3."""
 import posixpath
 

@@ -1,5 +1,5 @@
 # SPDX-License-Identifier: MIT
-"""The proved crate of the library for C in assembler, of which `cc` makes an object without a kit.
+"""The proved crate of the C library in assembler, of which `cc` makes an object without a kit.
 
 The kit's compiler hands LLVM's form of the proved code to the clang of its toolchain folder. Here
 it gets a folder whose clang is a script: it calls the kit's clang twice, by the same words, once

@@ -55,7 +55,7 @@ def compiled(machine, archive, shared, programs, proofs) -> Tree:
 
 
 def wheel(shared, folder):
-    """Makes the package for Python, with this library."""
+    """Makes the Python package, with this library."""
     with TemporaryDirectory() as room:
         named = Path(room, SHARED)
         named.write_bytes(shared.octets)

@@ -1,6 +1,6 @@
 # SPDX-License-Identifier: MIT
 """The sources of a release, of which a C compiler, binutils and make alone build the library, for
-this machine or another one, and the crate for Rust."""
+this machine or another one, and the Rust crate."""
 import re
 import subprocess
 from pathlib import Path
@@ -35,7 +35,7 @@ def sources(root, shared, assemblers) -> Tree:
 
 
 def crate(root) -> Tree:
-    """The crate for Rust below a folder, without the tests that need the repository around it."""
+    """The Rust crate below a folder, without the tests that need the repository around it."""
     named = [it for it in listed() if it.startswith("rust/") and not it.startswith("rust/tests/")]
     return below(root, {**{it.removeprefix("rust/"): copy(TOP / it) for it in named},
                         "LICENSE": copy(TOP / "LICENSE")})
