@@ -67,8 +67,9 @@ pub(crate) fn judge<'a>(store: &'a Store, hash: u64, ask: AskRef<'_>, stale: u64
     ensures ahead { IfSome result.entry (λ held. ahead_of held.key.now store.now.entries ≤ result.age) }
     ensures miss { IfNone result.entry (result.age ≡ 0) }
 {
-    let set = store.get(hash, ask.key_at(Slot::Set(ask.rtype)));
+    // The mark comes from memory as a rule, and the set too: begun first, it loads beside the set.
     let may_hold = store.may_hold_negative(hash);
+    let set = store.get(hash, ask.key_at(Slot::Set(ask.rtype)));
     let nx = get_negative(store, hash, ask, Slot::Nx, may_hold);
     let governing = governing(set.held, nx.held, ask.moment);
     let age = governing_age(governing, set.age, nx.age);

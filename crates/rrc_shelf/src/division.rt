@@ -11,12 +11,15 @@ use crate::terms::Division;
 use rrc_cache::keyed_hash;
 use rrc_name::NameRef;
 
+/// The most parts that there may be, and the usual number.
+const MOST_PARTS: u64 = 64;
+
 /// Whether there may be so many parts.
 fn check_parts(parts: u64) -> Result<(), Status>
     ensures fit { OnOk result (IsPartCount parts) }
     ensures refused { IfErr result (λ status. Because Status.BadRules (IsPartCount parts → ⊥) (number_of status)) }
 {
-    if !(1..=64).contains(&parts) {
+    if !(1..=MOST_PARTS).contains(&parts) {
         return Err(Status::BadRules);
     }
     Ok(())
@@ -50,13 +53,19 @@ pub(crate) fn check_division(division: &Division) -> Result<(), Status>
     check_seed(&division.seed)
 }
 
-/// The part, below `parts`, that all keys of a name lie in whose hash this is.
+/// The part, below `parts`, that all keys of a name lie in whose hash this is. The usual number of
+/// parts is told apart, since to divide by a number that the compiler knows takes no division.
 pub(crate) fn part_of_hash(hash: u64, parts: u64) -> u64
     requires { 1 ≤ parts }
     ensures value { result ≡ hash / 2 ^ 32 % parts }
     ensures below { result < parts }
 {
-    hash / (1 << 32) % parts
+    let upper = hash / (1 << 32);
+    if parts == MOST_PARTS {
+        upper % MOST_PARTS
+    } else {
+        upper % parts
+    }
 }
 
 /// The part, below `parts`, which is 1 to 64, that all keys of a name lie in, by a seed. Who does
