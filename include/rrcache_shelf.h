@@ -13,20 +13,21 @@
    more shelves, fewer threads wait for the same lock. For a program with one thread, one shelf
    without a lock is enough.
 
-   This header uses the following terms. There are three kinds of *key*: a name, a class and a type,
-   for the RRset or NODATA of this type; a name and a class, for the NXDOMAIN; and a name, a class
-   and a type, for the resolution failure of this type. An *entry* is the RRset, negative answer or
-   failure that a key holds. To *offer* data is to pass them to a shelf, which decides whether to
+   This header uses the following terms. There are three kinds of *key*. The first consists of a
+   name, a class and a type, and is for the RRset or NODATA of the type. The second consists of a
+   name and a class, and is for the NXDOMAIN of the name. The third consists of a name, a class and
+   a type, and is for the resolution failure of the type. An *entry* is the RRset, negative answer
+   or failure that a key holds. To *offer* data is to pass them to a shelf, which decides whether to
    store them (`enum rrcache_outcome`). An *ask* looks up an answer. The entry that gives the answer
-   moves to the front of the LRU order. A *peek* looks up an answer but changes nothing. A *part*
-   consists of all names that belong to one shelf, and has the same number as the shelf, counted
+   moves to the front of the LRU order. A *peek* looks up an answer but changes nothing. A *part* is
+   the set of all names that belong to one shelf. A part and its shelf have the same number, counted
    from 0. A type or a class is *kept* if the library stores its data; the library skips data of all
    other types and classes.
 
    docs/RULES.md describes the rules of the cache. Some names in this header differ from the terms
    on that page: a `moment` is a timestamp, `trust` is a rank, `left` is a remaining TTL, and `data`
-   are rdata (docs/GLOSSARY.md). docs/UPGRADING.md says how to change a program that was written for
-   version 1 of the library.
+   are rdata (docs/GLOSSARY.md). docs/UPGRADING.md explains how to change a program that was written
+   for version 1 of the library.
 
    Ownership
    - The caller owns the handles, the locks and the buffers, and the library keeps no pointer to any
@@ -50,13 +51,13 @@
      `rrcache_ask_alias`, needs a write lock: no other call on that shelf may run at the same time.
      If a caller breaks these rules, the behavior is undefined, and the library does not detect the
      error. No call takes more than one shelf, so no call needs the locks of two shelves.
-   - These calls on offers take no shelf, and need no lock of a shelf: `rrcache_read_response`,
-     `rrcache_read_message_unchecked`, `rrcache_tell_response`, `rrcache_tell_offer` and
-     `rrcache_free_offers`. Only one call at a time may use a handle for offers. This applies also
-     to `rrcache_offer_read` and `rrcache_offer_one`: while they run, they write to the handle of
-     the offers as well as to the handle of the shelf.
-   - `rrcache_take_chapters` and `rrcache_stop_recording` need the write lock of the shelf. These
-     calls on taken chapters need neither the shelf nor a lock: `rrcache_chapter_line`,
+   - The following calls on offers take no shelf, so they do not need the lock of a shelf:
+     `rrcache_read_response`, `rrcache_read_message_unchecked`, `rrcache_tell_response`,
+     `rrcache_tell_offer` and `rrcache_free_offers`. Only one call at a time may use a handle for
+     offers. This restriction also applies to `rrcache_offer_read` and `rrcache_offer_one`, because
+     they write not only to the handle of the shelf, but also to the handle of the offers.
+   - `rrcache_take_chapters` and `rrcache_stop_recording` need the write lock of the shelf. The
+     following calls on taken chapters need neither the shelf nor a lock: `rrcache_chapter_line`,
      `rrcache_write_line`, `rrcache_write_chapter` and `rrcache_free_chapters`. While they run,
      other threads may use or free the shelf. Only one call at a time may use a handle for chapters.
    - `rrcache_fault`, `rrcache_make_name`, `rrcache_compose_response` and `rrcache_tell_octets` take
@@ -70,11 +71,11 @@
    Memory
    - The library allocates memory only with malloc and realloc, and frees it only with free. If an
      allocation fails, the call returns RRCACHE_MEMORY.
-   - These calls never allocate and never return RRCACHE_MEMORY, even for long names:
+   - The following calls never allocate and never return RRCACHE_MEMORY, even for long names:
      `rrcache_peek`, `rrcache_peek_alias`, `rrcache_tell_stored`, `rrcache_sizes`,
      `rrcache_next_expiry`, `rrcache_make_name`, `rrcache_tell_response`, `rrcache_tell_offer`,
      `rrcache_tell_octets` and `rrcache_compose_response`. While a shelf does not record its
-     history, this also applies to `rrcache_ask` and `rrcache_ask_alias`.
+     history, the same is true of `rrcache_ask` and `rrcache_ask_alias`.
    - The library copies each reply into the caller's buffer.
 
    Errors
@@ -82,17 +83,18 @@
      such as `rrcache_room`. RRCACHE_DONE is 0, and every other status is an error. No error
      terminates the process.
    - For the functions of this header, 0 is not a valid purpose, mode, class, trust, kind, section,
-     seed or limit. So if the caller forgot to set such a field, a call that uses the field returns
-     an error. For the functions of rrcache.h, a seed or a limit of 0 means the default.
+     seed or limit. So if the caller forgets to set one of these fields, a call that uses the field
+     returns an error. For the functions of rrcache.h, a seed or a limit of 0 means the default.
    - If a call fails, the history of the shelf and the replies that the shelf gives are unchanged.
-     If the shelf records, the call may still have closed a full chapter, which changes neither the
-     history nor the replies. Five functions are exceptions, because they may have done part of
-     their work when they fail: `rrcache_offer_read`, `rrcache_offer_message_unchecked`,
-     `rrcache_offer_part_unchecked`, `rrcache_sweep_some` and `rrcache_trim`. These functions make
-     several offers, sweeps or evictions, one after another. If one of these steps fails, the
-     earlier steps are not undone. `counts` then says how many of the earlier offers had each
-     outcome, and `swept` says how many keys the earlier sweeps removed. If `rrcache_write_chapter`
-     or `rrcache_write_line` fails, it may have written the beginning of the text.
+     If the shelf records, the failed call may have closed a full chapter, but closing a chapter
+     changes neither the history nor the replies. Five functions are exceptions, because they may
+     have done part of their work when they fail: `rrcache_offer_read`,
+     `rrcache_offer_message_unchecked`, `rrcache_offer_part_unchecked`, `rrcache_sweep_some` and
+     `rrcache_trim`. These functions make several offers, sweeps or evictions, one after another. If
+     one of these steps fails, the earlier steps are not undone. The output `counts` then reports
+     how many of the earlier offers had each outcome, and the output `swept` reports how many keys
+     the earlier sweeps removed. If `rrcache_write_chapter` or `rrcache_write_line` fails, it may
+     have written the beginning of the text.
    - If `rrcache_take_chapters` fails, the chapters stay in the shelf. If `rrcache_stop_recording`
      fails, the shelf continues to record.
    - If a call fails, its outputs are unmodified, with two exceptions. A call that returns
@@ -101,15 +103,16 @@
      RRCACHE_NO_SHELF or RRCACHE_NO_OFFERS.
 
    A message about names in several shelves
-   - A response may have data of names that are not in the shelf of the question's name, such as the
-     target of a CNAME record, the owner of an SOA record, or the names of name servers. A resolver
-     with several shelves reads the message once, with `rrcache_read_response` and without a lock.
-     This call reports which shelves the message concerns. For each of these shelves, the resolver
-     takes the lock of the shelf and calls `rrcache_offer_read` with the number of the shelf,
-     counted from 0. Each call offers only the data of names in one shelf, but together the calls
-     offer everything that `rrcache_read_response` read. The data of each name are then in the shelf
-     that `rrcache_make_name` determines for this name with the same `struct rrcache_parts`. No
-     event is added to the history of a shelf that the message does not concern.
+   - A response may contain data of names that do not belong to the shelf of the question's name,
+     such as the target of a CNAME record, the owner of an SOA record, or the names of name servers.
+     A resolver with several shelves reads the message once, with `rrcache_read_response` and
+     without a lock. This call reports which shelves the message concerns. For each of these
+     shelves, the resolver takes the lock of the shelf and calls `rrcache_offer_read` with the
+     number of the shelf, counted from 0. Each call offers only the data of names in one shelf, but
+     together the calls offer everything that `rrcache_read_response` read. The data of each name
+     are then in the shelf that `rrcache_make_name`, with the same `struct rrcache_parts`,
+     determines for this name. No event is added to the history of a shelf that the message does not
+     concern.
    - `rrcache_offer_part_unchecked` reads a message, and offers the data of the names in one shelf
      to that shelf. For several shelves, the caller needs one call for each shelf, and each call
      reads the whole message under the lock of its shelf. So use this function only to offer data to
@@ -132,45 +135,45 @@
      data of names at or below the zone whose servers were queried. Such a function does not compare
      the message with a query. The caller must check the addresses and ports, the identifier and the
      question of the message before it calls such a function.
-   - A truncated message, in which TC (the bit 0x02 of the third octet) is set, offers nothing (RFC
-     2181 section 9). If the message can be read, the call that reads it returns RRCACHE_DONE, all
-     fields of `counts` are 0, no event is written, and `rrcache_tell_response` reports that TC is
-     set. If the message ends inside a record, the call returns RRCACHE_BAD_MESSAGE. In either case,
-     the caller must send the query again over TCP. A message that ends inside a record but has TC
-     clear causes the same error. So the caller must check TC before it treats RRCACHE_BAD_MESSAGE
-     as a failure of the server. Over TCP, a length of two octets precedes each message: do not pass
-     these two octets to the library.
-   - A message also offers nothing if its opcode is not QUERY, if the class of its question is not
-     kept, or if the name of its question is out of bailiwick.
+   - If TC (the bit 0x02 of the third octet) is set, a message is truncated, and nothing from it is
+     offered (RFC 2181 section 9). If the truncated message can be read, the call that reads it
+     returns RRCACHE_DONE, all fields of `counts` are 0, no event is written, and
+     `rrcache_tell_response` reports that TC is set. If the message ends inside a record, the call
+     returns RRCACHE_BAD_MESSAGE. In either case, the caller must send the query again over TCP. A
+     message that ends inside a record but has TC clear causes the same error. So the caller must
+     check TC before it treats RRCACHE_BAD_MESSAGE as a failure of the server. Over TCP, a length of
+     two octets precedes each message: do not pass these two octets to the library.
+   - Likewise, nothing from a message is offered if its opcode is not QUERY, if the class of its
+     question is not kept, or if the name of its question is out of bailiwick.
    - The kept classes are IN, CH and HS (RFC 1035 section 3.2.4). docs/RULES.md lists the kept
-     types. Each class of a name has its own keys. A record of a message counts only if its class is
-     the class of the question. Data of type A in class CH are not kept, because these rdata begin
-     with a name. It is an error to ask for a class that is not kept, or for type 0. A question for
-     any other type that is not kept is allowed: the reply is a miss, or RRCACHE_NXDOMAIN if an
-     unexpired NXDOMAIN of the name is cached. For type ANY, such an NXDOMAIN gives the reply even
-     if unexpired RRsets of higher rank are cached for the name.
+     types. Each class of a name has its own keys. A record of a message is ignored unless its class
+     is the class of the question. Data of type A in class CH are not kept, because these rdata
+     begin with a name. It is an error to ask for a class that is not kept, or for type 0. A
+     question for any other type that is not kept is allowed: the reply is a miss, or
+     RRCACHE_NXDOMAIN if an unexpired NXDOMAIN of the name is cached. For type ANY, such an NXDOMAIN
+     gives the reply even if unexpired RRsets of higher rank are cached for the name.
    - Even if a message that answers its question has just been offered, the next ask for this
-     question may be a miss. Apart from evictions, there are six possible causes: the answer is
-     behind a CNAME record, or behind a CNAME chain that is too long; the TTL is 0; the type is not
-     kept; the records of an RRset have different TTLs, AA is clear and `lowest_ttl` is not set; a
-     negative response has no SOA record; or the RRset is not relevant. `rrcache_tell_response`
-     still returns the kind of the response, and `rrcache_tell_offer` returns even an RRset with TTL
-     0. The caller answers the waiting client from the output of these calls. The caller has to read
-     the message itself only to get data that are not offered, such as data of a type that is not
-     kept.
+     question may be a miss. Apart from evictions, there are six possible causes: the answer is at
+     the end of a CNAME chain, or the chain is too long; the TTL is 0; the type is not kept; the
+     records of an RRset have different TTLs, AA is clear and `lowest_ttl` is not set; the response
+     is negative but has no SOA record; or the RRset is not relevant. `rrcache_tell_response` still
+     returns the kind of the response, and `rrcache_tell_offer` returns even an RRset with TTL
+     0. The caller can answer the waiting client from the output of these calls. The caller has to
+     parse the message only if it needs data that are not offered, such as data of a type that is
+     not kept.
    - If nothing is stored from a message that answers its question, a failure that is cached for the
-     question is still returned as RRCACHE_FAILED until the failure expires. `rrcache_offer_failure`
-     with `ttl` 0 ends the failure.
-   - A message from which nothing is stored does not change a cached RRset either, unless an offer
-     of the message has TTL 0 and clears the RRset. The unchanged RRset may still be returned, even
-     stale. But RFC 8767 section 4 counts the RRset as refreshed if the message is an authoritative
-     response (AA set) with RCODE NOERROR or NXDOMAIN. So after such a message, the resolver calls
-     `rrcache_offer_set` with `ttl` 0 to clear the RRset.
-   - A response with an RCODE other than NOERROR and NXDOMAIN offers a failure of its question, even
-     if the RCODE is FORMERR, NOTIMP or REFUSED. If no cached data may answer the question, the
-     reply is then RRCACHE_FAILED until the failure expires or a later entry for the question is
-     stored. So offer such a response only when the resolver has no other server left to query, and
-     no retry without EDNS left to make.
+     question is still returned as RRCACHE_FAILED until the failure expires. To end the failure
+     earlier, call `rrcache_offer_failure` with `ttl` 0.
+   - Likewise, a message from which nothing is stored does not change a cached RRset, unless an
+     offer of the message has TTL 0 and clears the RRset. The unchanged RRset may still be returned,
+     even as a stale answer. But under RFC 8767 section 4, the RRset counts as refreshed if the
+     message is an authoritative response (AA set) with RCODE NOERROR or NXDOMAIN. So after such a
+     message, the resolver calls `rrcache_offer_set` with `ttl` 0 to clear the RRset.
+   - If the RCODE of a response is neither NOERROR nor NXDOMAIN, a failure of its question is
+     offered, even if the RCODE is FORMERR, NOTIMP or REFUSED. If no cached data may answer the
+     question, the reply is then RRCACHE_FAILED until the failure expires or a later entry for the
+     question is stored. So offer such a response only when the resolver can neither query another
+     server nor try again without EDNS.
    - If a message has more new keys than fit in the shelf, the later keys of the message evict some
      of its earlier keys.
 
@@ -179,7 +182,7 @@
      the library reads no clock. The timestamp of a call may be lower than that of a previous call.
    - The age of an entry is the timestamp of the call minus the timestamp of the entry. If the
      timestamp of the call is lower, the age is 0, and `left` is the whole TTL of the entry, never
-     more. The field `age` of `struct rrcache_entry` is another number: it counts uses.
+     more. The field `age` of `struct rrcache_entry` is not this age, but a number of uses.
    - If the caller's clock is set back by some seconds, all cached data live that many seconds
      longer. Data that had expired may answer again, and may prevent data of lower rank from being
      stored, unless the expired data were already replaced, cleared, evicted or swept. If the clock
@@ -202,20 +205,20 @@
      `rrcache_record` starts recording: from then on, the shelf keeps events in memory.
      `rrcache_stop_recording` stops recording and returns the recorded chapters.
      `rrcache_stop_and_drop` stops recording and frees the recorded chapters. No reply depends on
-     whether a shelf records. Except for the statements about numbers, the following points about
-     events and chapters apply only while a shelf records.
+     whether a shelf records. The following points about events and chapters apply only while a
+     shelf records, except for the statements about event numbers and chapter numbers.
    - An event uses 96 octets, plus the octets of its names and data.
    - A chapter is a segment of the history, and new events are added to the open chapter. If a call
      has to write an event and the open chapter is full, the call first closes that chapter and
-     opens the next one, under the lock of the shelf. A call that offers a message may do so before
-     each of its offers. No reply depends on where chapters end.
+     opens the next one, under the lock of the shelf. A call that offers a message may close a
+     chapter before each of its offers. No reply depends on where chapters end.
    - The time to close a chapter grows with the number of keys that the shelf holds, and with the
      number of keys that it held when the chapter began. The call that closes the chapter writes 16
      octets for each key, and copies an entry of 56 octets for each key that has been used since the
      chapter began. If the uses and removals of keys during the chapter outnumber the keys that the
      shelf held when the chapter began, the call copies the entries of all keys instead.
      `rrcache_record`, which ends the open chapter, always copies the entries of all keys. Names,
-     data and events are not copied. A good value of `chapter`, the maximum number of events in a
+     data and events are not copied. A good value for `chapter`, the maximum number of events in a
      chapter, is about the number of keys in the shelf.
    - A caller that records a history should regularly take the closed chapters with
      `rrcache_take_chapters`, or drop them with `rrcache_drop_chapters`. The time to take chapters
@@ -232,10 +235,11 @@
      recording is 2 or higher.
    - Event numbers are used up if the next event would have the number 2^62, even if the shelf does
      not record. Chapter numbers are used up if the open chapter is full and has the number 2^62.
-     Once numbers are used up, each call that has to write an event returns RRCACHE_HISTORY_FULL,
-     even if chapters are dropped, but `rrcache_peek` still returns replies. The resolver then frees
-     the shelf and makes a new, empty one; with `struct rrcache`, the resolver closes the cache and
-     opens a new one. At 10^9 events a second, event numbers are used up after 146 years.
+     Once event numbers or chapter numbers are used up, each call that has to write an event returns
+     RRCACHE_HISTORY_FULL, even after chapters have been dropped, but `rrcache_peek` still returns
+     replies. The resolver then frees the shelf and makes a new, empty one; with `struct rrcache`,
+     the resolver closes the cache and opens a new one. At 10^9 events a second, event numbers are
+     used up after 146 years.
 
    Which error is returned
    - If several errors apply, the call returns the first one in this list: RRCACHE_NULL;
@@ -255,7 +259,7 @@
      RRCACHE_NO_SHELF, RRCACHE_NO_OFFERS or RRCACHE_NO_CHAPTERS if the handle holds nothing. Calls
      that allocate memory return RRCACHE_MEMORY if malloc fails. Calls that write an event return
      RRCACHE_HISTORY_FULL if numbers are used up, and RRCACHE_MOMENT_TOO_LARGE if the timestamp is
-     above 2^40. The comments of most functions do not repeat these conditions.
+     above 2^40. The comments on most functions do not repeat these conditions.
 
    Names are in wire form (RFC 1035 section 3.1): complete, without compression pointers, and at
    most 255 octets long, including the zero octet at the end. Letters may be in upper or lower case.
@@ -265,16 +269,16 @@
 
    The names of the exported functions that this header declares begin with `rrc_`. These functions
    require pointers that are not null, and buffers that do not overlap. The inline functions below
-   check these conditions and then call an exported function. Three functions that a resolver calls
-   do not call an exported function: `rrcache_compose_response`, `rrcache_tell_octets` and
-   `rrcache_status_text`. An inline function returns RRCACHE_NULL if a required pointer is null. It
-   returns RRCACHE_OVERLAP if anything that it writes, including the handle, overlaps another output
-   or an input. There is one exception: a struct that contains pointers, such as
-   `struct rrcache_response`, may overlap an output, and so may a struct that is passed together
-   with such a struct. The function reads these structs before it writes anything. Inputs may
-   overlap each other. The library cannot check whether a handle or a name was initialized to zeros,
-   whether two threads use one handle at the same time, or whether a buffer is as large as the size
-   that is passed with the buffer. */
+   check these conditions and then call an exported function. Of the inline functions that a
+   resolver calls, three do not call an exported function: `rrcache_compose_response`,
+   `rrcache_tell_octets` and `rrcache_status_text`. An inline function returns RRCACHE_NULL if a
+   required pointer is null. It returns RRCACHE_OVERLAP if anything that it writes, including the
+   handle, overlaps another output or an input. There is one exception: a struct that contains
+   pointers, such as `struct rrcache_response`, may overlap an output, and so may a struct that is
+   passed together with such a struct. The function reads these structs before it writes anything.
+   Inputs may overlap each other. The library cannot check whether a handle or a name was
+   initialized to zeros, whether two threads use one handle at the same time, or whether a buffer is
+   as large as the size that is passed with the buffer. */
 #ifndef RRCACHE_SHELF_H
 #define RRCACHE_SHELF_H
 
@@ -282,8 +286,8 @@
 #include <stddef.h>
 #include <stdint.h>
 
-/* Initializes a struct in an inline function to zeros. In C++, the initializer is {}, because C++
-   compilers warn that {0} leaves out fields. */
+/* The initializer with which inline functions set a struct to zeros. In C++, the initializer is {},
+   because C++ compilers warn that {0} leaves out fields. */
 /* clang-format off */
 #ifdef __cplusplus
 #define RRCACHE_ZEROS {}
@@ -413,15 +417,14 @@ enum rrcache_outcome { RRCACHE_KEPT = 1, RRCACHE_CLEARED = 2, RRCACHE_OUTRANKED 
 
 /* The kind of a response from a server of a zone: what the response means for its question (RFC
    1034 section 5.3.3). In the comments below, *the type* is the type of the question. *The name* is
-   the name of the question. If CNAME records of the response lead from there to another name, *the
-   name* is that other name instead. At most 16 CNAME records are followed, and only as long as
-   their owners are in bailiwick. For a question of type CNAME or ANY, no CNAME record is
-   followed. */
+   the name of the question or, if CNAME records of the response lead from that name to another
+   name, that other name. At most 16 CNAME records are followed, and only as long as their owners
+   are in bailiwick. For a question of type CNAME or ANY, no CNAME record is followed. */
 enum rrcache_response_kind {
     RRCACHE_RESPONSE_ANSWER = 1,       /* the response has data of the type for the name */
     RRCACHE_RESPONSE_UNEQUAL_TTLS = 2, /* the response has data of the type for the name, but these
-                                          are not offered, because their TTLs differ, AA is clear,
-                                          and `lowest_ttl` is not set */
+                                          data are not offered, because their TTLs differ, AA is
+                                          clear, and `lowest_ttl` is not set */
     RRCACHE_RESPONSE_NODATA = 3,       /* the name has no data of the type (RFC 2308 section 2.2).
                                           If the response has no SOA record, no negative answer is
                                           offered. For type ANY, data of types that are not kept do
@@ -439,10 +442,10 @@ enum rrcache_response_kind {
     RRCACHE_RESPONSE_UNUSABLE = 8  /* none of the kinds above. A response has this kind if TC is
                                       set, the opcode is not QUERY, the class of the question is not
                                       kept, the name of the question is out of bailiwick, the CNAME
-                                      chain is a loop or has more than 16 records, or RCODE is
+                                      chain is a loop or has more than 16 records, or the RCODE is
                                       NXDOMAIN although the answer section has a record of the name.
-                                      A response that neither has data, nor denies that there are
-                                      data, nor is a referral has this kind too; perhaps the server
+                                      A response also has this kind if it has no data, does not deny
+                                      that there are data, and is not a referral; perhaps the server
                                       does not serve the zone. A response with AA set is not a
                                       referral, even if it has NS records below the zone. Data of a
                                       type that is not kept are skipped. So if the question is of
@@ -527,12 +530,12 @@ struct rrcache_question {
     uint32_t mode;    /* enum rrcache_mode */
 };
 
-/* The entry of a key. All fields are 0 if nothing is stored, and in a reply of kind RRCACHE_MISS or
-   RRCACHE_FAILED. An auditor uses `number` to find, in the history of the shelf, the event that
-   stored the entry. Two entries of one shelf never have the same `number`, but entries of two
-   shelves may. So if a caller keeps its own data about entries, it looks these data up by the shelf
-   and `number`, or by the name and `number`. The name is enough, because all entries of a name are
-   in one shelf. */
+/* The entry of a key. All fields are 0 if nothing is stored, and also in a reply of kind
+   RRCACHE_MISS or RRCACHE_FAILED. In the history of the shelf, an auditor uses `number` to find the
+   event that stored the entry. Two entries of one shelf never have the same `number`, but entries
+   of two shelves may. So if a caller keeps its own data about entries, it looks these data up by
+   the shelf and `number`, or by the name and `number`. The name can replace the shelf, because all
+   entries of a name are in one shelf. */
 struct rrcache_entry {
     uint32_t kind;   /* enum rrcache_kind, or 0 if nothing is stored */
     uint32_t trust;  /* enum rrcache_trust; 0 for a failure */
@@ -546,9 +549,9 @@ struct rrcache_entry {
     uint64_t age;    /* not a time, but the number of uses of keys since the last use of this key.
                         The number of other keys used since then is at most `age`. A key is used
                         when an entry is stored under it, and when its entry answers an ask. In a
-                        reply, `age` is the number before the call. An ask then moves the entry to
-                        the front of the LRU order, but a peek does not. If the entry is already at
-                        the front (`age` 0), an ask does not count as a use */
+                        reply, `age` has its value from before the call. An ask then moves the entry
+                        to the front of the LRU order, but a peek does not. If the entry is already
+                        at the front (`age` 0), an ask does not count as a use */
 };
 
 /* A reply. The first `owner_size` octets of the buffer are the owner in wire form, in the spelling
@@ -565,15 +568,15 @@ struct rrcache_told {
                             RRCACHE_STALE (RFC 8767 section 4), or 0 for RRCACHE_MISS and
                             RRCACHE_FAILED */
     uint64_t retry_from; /* for RRCACHE_FAILED, the timestamp from which the resolver may try again;
-                            otherwise 0. After RRCACHE_STALE, a peek with RRCACHE_NO_STALE returns
-                            this timestamp; in a `struct rrcache`, a look-up with RRCACHE_NO_STALE
-                            returns it */
+                            otherwise 0. After a reply of kind RRCACHE_STALE, a peek with
+                            RRCACHE_NO_STALE returns this timestamp; for a `struct rrcache`, use a
+                            look-up with RRCACHE_NO_STALE instead */
     uint64_t owner_size;
     uint64_t data_size;
     struct rrcache_entry entry; /* the entry that gives the reply */
 };
 
-/* What a response says apart from its offers. */
+/* The properties of a response, apart from its offers. */
 struct rrcache_summary {
     uint32_t kind; /* enum rrcache_response_kind */
     uint8_t rcode; /* the RCODE of the header, 0 to 15; the upper bits that an OPT record may add
@@ -647,7 +650,7 @@ struct rrcache_usage {
     uint64_t keys;
     uint64_t events;
     uint64_t chapters;
-    uint64_t octets; /* approximately how many octets of memory the keys use */
+    uint64_t octets; /* the approximate number of octets of memory that the keys use */
 };
 
 /* Which offers of a message to make: the offers of one part. Parts are counted from 0. */
@@ -708,19 +711,19 @@ struct rrcache_response {
     size_t zone_size;
     uint64_t moment;
     struct rrcache_limits limits;
-    bool lowest_ttl;    /* for a response with AA clear: whether to offer an RRset whose records
-                           have different TTLs, with the lowest of these TTLs. Other resolvers store
-                           such an RRset with this TTL. If this field is not set, such an RRset is
-                           left out (RFC 2181 section 5.2) */
+    bool lowest_ttl;    /* for a response with AA clear: if the records of an RRset have different
+                           TTLs, whether to offer the RRset with the lowest of these TTLs. Other
+                           resolvers store such an RRset with its lowest TTL. If this field is not
+                           set, such an RRset is left out (RFC 2181 section 5.2) */
     bool clears_denied; /* whether an authoritative NXDOMAIN clears the data of the denied name for
                            the types A, AAAA and CNAME and for the type of the question. If this
                            field is not set, data that were stored before the NXDOMAIN may answer
                            again, fresh or stale, after the NXDOMAIN has been removed */
 };
 
-/* An RRset of a response that a resolver parsed itself. `data` has the rdata of each record, one
-   after another, without compressed names. A length of two octets, high octet first, precedes the
-   rdata of each record. */
+/* An RRset of a response that a resolver parsed itself. `data` contains the rdata of all records,
+   one after another, without compressed names. A length of two octets, high octet first, precedes
+   the rdata of each record. */
 struct rrcache_parsed_set {
     const uint8_t *owner;
     size_t owner_size;
@@ -744,8 +747,8 @@ struct rrcache_parsed_response {
     size_t count;
 };
 
-/* An RRset to offer. `data` has the rdata of each record, one after another, without compressed
-   names. A length of two octets, high octet first, precedes the rdata of each record. */
+/* An RRset to offer. `data` contains the rdata of all records, one after another, without
+   compressed names. A length of two octets, high octet first, precedes the rdata of each record. */
 struct rrcache_set {
     const uint8_t *owner;
     size_t owner_size;
@@ -760,9 +763,9 @@ struct rrcache_set {
 };
 
 /* A negative answer to offer: the name has no data of the type (`kind` RRCACHE_NODATA), or does not
-   exist (RRCACHE_NXDOMAIN). `soa` has the rdata of the SOA record of the negative answer, without
-   compressed names. With RRCACHE_NXDOMAIN, `rtype` is ignored, because a name that does not exist
-   has no data of any type. */
+   exist (RRCACHE_NXDOMAIN). `soa` contains the rdata of the SOA record of the negative answer,
+   without compressed names. With RRCACHE_NXDOMAIN, `rtype` is ignored, because a name that does not
+   exist has no data of any type. */
 struct rrcache_negative {
     const uint8_t *name;
     size_t name_size;
@@ -800,8 +803,8 @@ typedef int (*rrcache_sink)(void *state, const void *octets, size_t size);
    name, the rdata of a record, or a list of several records. RRCACHE_VALUE_OCTETS includes room for
    RRCACHE_INLINE_OCTETS octets of the name or rdata. Longer names, longer rdata, and lists occupy a
    separate block of memory, for which RRCACHE_BLOCK_OCTETS is added. RRCACHE_SHARED_OCTETS is for
-   the reference count of a name or of the data of a key, and for the block of this reference
-   count. */
+   the reference count of a name or of the data of a key, and for the block of memory that contains
+   this count. */
 enum {
     RRCACHE_ENTRY_OCTETS = 160,
     RRCACHE_VALUE_OCTETS = 48,
@@ -817,9 +820,9 @@ enum { RRCACHE_PIECE_OCTETS = 4096 };
 enum { RRCACHE_MESSAGE_OCTETS = 65535 };
 
 /* ---- The functions of the library that the inline functions call, and the structs that the inline
-   functions pass to them. The size of an array follows the pointer to the array. The read-only
-   functions take a copy of a handle, `look`. They write to this copy while they run, so no other
-   call may use the copy at the same time. */
+   functions pass to them. In the parameters of these functions, the size of an array follows the
+   pointer to the array. The read-only functions take `look`, a copy of a handle. They write to this
+   copy while they run, so no other call may use the copy at the same time. */
 
 struct rrc_response {
     uint64_t moment;
@@ -1040,7 +1043,7 @@ static inline bool rrcache_touch(const void *one, size_t one_size, const void *o
            || rrcache_overlap(other, other_size, read, read_size);
 }
 
-/* Whether the handle of a shelf overlaps memory that a call on this shelf reads or writes. */
+/* Whether the handle of a shelf overlaps an input or another output of a call on this shelf. */
 static inline bool rrcache_holds(const struct rrcache_shelf *shelf, const void *octets, size_t size)
 {
     return rrcache_overlap(shelf, sizeof *shelf, octets, size);
@@ -1073,9 +1076,9 @@ static inline enum rrcache_status rrcache_free(struct rrcache_shelf *shelf)
     return (enum rrcache_status)rrc_free(shelf);
 }
 
-/* Folds and hashes a name in wire form, and determines the part of the name, counted from 0. The
-   call writes the result to `name`, or leaves `name` unmodified if the call fails. The caller
-   passes the result to the calls that look up a name in a shelf. `rrcache_make_name` never
+/* Folds and hashes a name in wire form, and determines the number of the name's part, counted from
+   0. The call writes the result to `name`, or leaves `name` unmodified if the call fails. The
+   caller passes the result to the calls that look up a name in a shelf. `rrcache_make_name` never
    allocates, and needs no lock. Returns RRCACHE_BAD_RULES if `parts->count` is not in the range 1
    to 64, RRCACHE_BAD_SEED if the seed is all zeros, and RRCACHE_BAD_NAME if `octets` are not the
    wire form of a name. */
@@ -1211,7 +1214,7 @@ static inline enum rrcache_status rrcache_can_say(const struct rrcache_query *qu
 /* The number of octets in the header of a message. The name of the question follows the header. */
 enum { RRCACHE_HEADER_OCTETS = 12 };
 
-/* A message that is being written, at the front of a buffer. Octets that do not fit are counted but
+/* A message that is being written to the front of a buffer. Octets that do not fit are counted but
    not written, and `size` is at most RRCACHE_MESSAGE_OCTETS + 1. */
 struct rrcache_draft {
     uint8_t *octets;
@@ -1251,7 +1254,7 @@ static inline size_t rrcache_put_owner(struct rrcache_draft *draft,
 /* Appends the records of an RRset, and returns their number. If a compression pointer can lead to
    the owner of the first record, the records after the first have such a pointer as their owner. If
    the owner is the name of the question, with letters in the same case, the owner of the first
-   record is a pointer too, to the name in the question. */
+   record is a pointer to the name in the question. */
 static inline size_t rrcache_put_set(struct rrcache_draft *draft, const struct rrcache_query *query,
                                      const struct rrcache_parsed_set *set)
 {
@@ -1322,11 +1325,11 @@ static inline size_t rrcache_put_response(const struct rrcache_query *query,
    response too. `rrcache_compose_response` never allocates and needs no lock, and its time is
    linear in the number of octets of its arguments.
 
-   Before this call, the caller must compare the response with the query (RFC 5452 section 9.1): QR,
-   the opcode, the identifier and the question. If `with_case` of the query is set, the caller must
-   also compare the case of the letters in the name. The new message has QR set, the opcode QUERY,
-   RD clear, and the identifier and question of the query, even if the response had other values. So
-   the new message never causes RRCACHE_OTHER_QUERY.
+   Before this call, the caller must check QR, the opcode, the identifier and the question of the
+   response against the query (RFC 5452 section 9.1). If `with_case` of the query is set, the caller
+   must also compare the case of the letters in the name. The new message has QR set, the opcode
+   QUERY, RD clear, and the identifier and question of the query, even if the response had other
+   values. So the new message never causes RRCACHE_OTHER_QUERY.
 
    In the message, the RRsets of a section are in the order of the array `sets`, and the records of
    an RRset are in the order of its data. If the records of an RRset have different TTLs, pass one
@@ -1343,9 +1346,9 @@ static inline size_t rrcache_put_response(const struct rrcache_query *query,
    RRCACHE_BAD_DATA if the last rdata of a set are cut off; and RRCACHE_WRONG_BODY if a set has no
    data. Returns RRCACHE_SMALL if the buffer is too small: the buffer is then unmodified, and `size`
    is the size of the message. If the message would have more than RRCACHE_MESSAGE_OCTETS octets, no
-   buffer is large enough, and `size` is RRCACHE_MESSAGE_OCTETS + 1. Even if the response was not
-   too large, the new message may be, because only owners are compressed in the new message. In this
-   case, leave out the additional section. */
+   buffer is large enough, and `size` is RRCACHE_MESSAGE_OCTETS + 1. The new message may be too
+   large even if the response was not, because only owners are compressed in the new message. In
+   this case, leave out the additional section. */
 static inline enum rrcache_status
 rrcache_compose_response(const struct rrcache_query *query,
                          const struct rrcache_parsed_response *parsed, uint8_t *buffer, size_t room,
@@ -1417,7 +1420,7 @@ static inline enum rrcache_status rrcache_can_read(const struct rrcache_response
    again over TCP. A server that returns FORMERR without a question may not support EDNS (RFC 6891
    section 7).
 
-   These data are relevant:
+   The following data are relevant:
    - In the answer section, an RRset is relevant if its owner is the name of the question, or one of
      at most 11 names to which CNAME records lead from that name. The RRset must also have the type
      of the question or type CNAME; for a question of type ANY, it may have any type. A DNAME RRset
@@ -1430,21 +1433,21 @@ static inline enum rrcache_status rrcache_can_read(const struct rrcache_response
    - In the additional section, the A and AAAA RRsets of hosts are relevant. The hosts are the first
      20 names in the rdata of relevant NS, MX and SRV RRsets. The names in NS RRsets come first;
      apart from that, the names are in the order of the first records of their RRsets. A name that
-     occurs several times counts only once. A name that is out of bailiwick counts, although its
+     occurs several times counts only once. A name that is out of bailiwick counts too, although its
      addresses are left out.
    - A negative answer or a failure is always relevant.
 
-   These RRsets are not relevant:
+   The following RRsets are not relevant:
    - A DS RRset whose owner is `zone` itself, because the DS RRset of a zone is in the parent zone
      (RFC 4035 section 2.4).
    - An NS RRset of the authority section, unless the question asks for this RRset or the response
      is a referral (RFC 1034 section 4.3.2). In a referral, AA is clear and the owner of the NS
      RRset is below `zone`. So the servers of a zone cannot renew the delegation of this zone by
      adding NS records to the authority section of other responses. But a repeated referral renews
-     its NS RRset. A caller that wants a delegation to end with the TTL of its first referral peeks
-     for the NS RRset of each referral before it makes the offers of that referral. If an unexpired
-     NS RRset with the same data is cached, the caller does not make the offers for the part to
-     which the owner of this RRset belongs.
+     its NS RRset. To make a delegation end with the TTL of its first referral, the caller peeks for
+     the NS RRset of each referral before it makes the offers of that referral. If an unexpired NS
+     RRset with the same data is cached, the caller does not make the offers for the part to which
+     the owner of this RRset belongs.
    - An RRset with more than 16,384 octets of rdata.
    - In class IN, an RRset of type A with rdata that are not 4 octets long, or an RRset of type AAAA
      with rdata that are not 16 octets long.
@@ -1453,8 +1456,8 @@ static inline enum rrcache_status rrcache_can_read(const struct rrcache_response
    three cases. First, CNAME records of its response lead from the name of the question to the other
    name. Second, NS, MX or SRV records of its response have the other name as a host. Third, the
    response has NS, SOA, DS or DNAME records of the other name, and the other name is above the name
-   of the question or above a name to which CNAME records lead from there. For NS and DS records,
-   the restrictions above apply too. */
+   of the question or above a name to which CNAME records lead from that name. For NS and DS
+   records, the restrictions above apply too. */
 static inline enum rrcache_status rrcache_read_response(struct rrcache_offers *offers,
                                                         const struct rrcache_response *response,
                                                         const struct rrcache_query *query,
@@ -1564,8 +1567,8 @@ static inline enum rrcache_status rrcache_tell_response(struct rrcache_offers *o
 
    `told->rtype` is the type of the offer, or 0 for RRCACHE_NXDOMAIN. For RRCACHE_FAILED,
    `told->retry_from` is the timestamp at which the failure ends. `told->entry` contains the kind,
-   rank, TTL and timestamp of the offer. Its `number` and `age` are 0, because only a stored entry
-   has them. All offers of a response have the class of its question.
+   rank, TTL and timestamp of the offer. The `number` and `age` of this entry are 0, because only a
+   stored entry has them. All offers of a response have the class of its question.
 
    Returns RRCACHE_NO_OFFERS if there is no offer with this number. Returns RRCACHE_SMALL if the
    buffer is too small: the call then writes to `name` and `told`, but leaves the buffer unmodified.
@@ -1609,13 +1612,13 @@ static inline uint64_t rrcache_data_room(const uint8_t *data, uint64_t size)
     return octets + (count > 1 ? RRCACHE_VALUE_OCTETS + RRCACHE_BLOCK_OCTETS : 0);
 }
 
-/* Computes how many octets, as `rrcache_sizes` counts them, an offer would use if it were stored
-   under a new key. `name`, `told` and `buffer` are the output of `rrcache_tell_offer`. If an offer
-   would use more octets than the limit to which the caller trims the shelf, the trim after this
-   offer would evict all keys. The caller can instead make only the other offers of the message,
-   with `rrcache_offer_one`, and answer the waiting client from the output of `rrcache_tell_offer`.
-   Returns RRCACHE_SMALL if `buffer_size` is less than the sum of the sizes in `told`. Needs no
-   lock. */
+/* Computes how many octets an offer would use if it were stored under a new key. The octets are
+   counted as `rrcache_sizes` counts them. `name`, `told` and `buffer` are the output of
+   `rrcache_tell_offer`. If an offer would use more octets than the limit to which the caller trims
+   the shelf, the trim after this offer would evict all keys. The caller can instead make only the
+   other offers of the message, with `rrcache_offer_one`, and answer the waiting client from the
+   output of `rrcache_tell_offer`. Returns RRCACHE_SMALL if `buffer_size` is less than the sum of
+   the sizes in `told`. Needs no lock. */
 static inline enum rrcache_status rrcache_tell_octets(const struct rrcache_name *name,
                                                       const struct rrcache_told *told,
                                                       const uint8_t *buffer, size_t buffer_size,
@@ -1673,8 +1676,8 @@ static inline enum rrcache_status rrcache_free_offers(struct rrcache_offers *off
    its negative answer or failure. The call also offers the data of names that belong to other
    shelves. If there are other shelves, call `rrcache_read_message_unchecked` instead, and then
    `rrcache_offer_read` for each shelf that the message concerns. `rrcache_offer_message_unchecked`
-   does not compare the response with a query, and ignores `lowest_ttl` and `clears_denied`. A
-   response with TC set offers nothing ("What is stored" above). The call writes to `counts` how
+   does not compare the response with a query, and ignores `lowest_ttl` and `clears_denied`. Nothing
+   is offered from a response with TC set ("What is stored" above). The call writes to `counts` how
    many of the offers had each outcome. If an offer fails, `counts` covers only the offers before
    it. Returns RRCACHE_BAD_LIMITS if a limit is out of range, RRCACHE_BAD_NAME if the zone is not in
    wire form, and RRCACHE_BAD_MESSAGE if the octets cannot be read as a response. Needs the write
@@ -1729,9 +1732,9 @@ rrcache_offer_part_unchecked(struct rrcache_shelf *shelf, const struct rrcache_r
    data of the type. Such an offer clears the RRset or NODATA that the shelf holds for the name,
    class and type. To flush an NXDOMAIN, call `rrcache_offer_negative` with RRCACHE_NXDOMAIN,
    RRCACHE_AUTHORITATIVE_ANSWER, `ttl` 0 and any SOA record, such as one with the root as its owner
-   and 22 zero octets as its rdata. No call flushes all names below a name. Replies contain the data
-   exactly as they were offered, so the caller has to leave out duplicate records (RFC 2181 section
-   5).
+   and 22 zero octets as its rdata. No call flushes all names below a given name. Replies contain
+   the data exactly as they were offered, so the caller has to leave out duplicate records (RFC 2181
+   section 5).
 
    Returns RRCACHE_BAD_CHOICE if `trust` is not a rank, RRCACHE_BAD_TYPE if data of the type are not
    kept in the class, RRCACHE_BAD_NAME if the owner is not in wire form, RRCACHE_BAD_DATA if the
@@ -1800,12 +1803,13 @@ static inline enum rrcache_status rrcache_offer_negative(struct rrcache_shelf *s
 }
 
 /* Offers a resolution failure of a name, a class and a type (RFC 9520). A failure is always stored,
-   so `outcome` is RRCACHE_KEPT. A failure with `ttl` 0 replaces, and so ends, the failure that the
-   shelf holds for the name, class and type. No ask or peek returns a failure with `ttl` 0. Such a
-   failure occupies a key even if there is no failure to end, and may then evict another key. So
-   offer a failure with `ttl` 0 only after a call has returned RRCACHE_FAILED. Returns
-   RRCACHE_BAD_TYPE if data of the type are not kept in the class, RRCACHE_BAD_NAME if the name is
-   not in wire form, and RRCACHE_WRONG_BODY if `ttl` is above 2^31 - 1. Needs the write lock. */
+   so `outcome` is RRCACHE_KEPT. A failure with `ttl` 0 replaces the failure that the shelf holds
+   for the name, class and type, and so ends that failure. No ask or peek returns a failure with
+   `ttl` 0. Such a failure occupies a key even if there is no failure to end, and may then evict
+   another key. So offer a failure with `ttl` 0 only after a call has returned RRCACHE_FAILED.
+   Returns RRCACHE_BAD_TYPE if data of the type are not kept in the class, RRCACHE_BAD_NAME if the
+   name is not in wire form, and RRCACHE_WRONG_BODY if `ttl` is above 2^31 - 1. Needs the write
+   lock. */
 static inline enum rrcache_status rrcache_offer_failure(struct rrcache_shelf *shelf,
                                                         const struct rrcache_failure *failure,
                                                         uint32_t *outcome)
@@ -1922,8 +1926,8 @@ static inline enum rrcache_status rrcache_peek(const struct rrcache_shelf *shelf
    records of its own (RFC 4035 section 2.5).
 
    If the reply is the CNAME record, the resolver then asks for the target of the record, under the
-   lock of the target's shelf. The target is the name in the first rdata. Further rdata do not
-   count, because a name may have only one CNAME record (RFC 2181 section 10.1).
+   lock of the target's shelf. The target is the name in the first rdata. Any further rdata are
+   ignored, because a name may have only one CNAME record (RFC 2181 section 10.1).
 
    A failure belongs to the name and type of the question. So with RRCACHE_STALE_IF_FAILED, an
    expired CNAME record may be returned stale only if the shelf holds a recent failure of the type
@@ -1932,7 +1936,8 @@ static inline enum rrcache_status rrcache_peek(const struct rrcache_shelf *shelf
    RRCACHE_NO_STALE returns RRCACHE_FAILED, ask for each name of the chain with RRCACHE_STALE_NOW.
    If the shelf holds unexpired data of the type that are older than the failure, the peek returns
    these data instead of RRCACHE_FAILED. In this case, call `rrcache_tell_stored`: it returns the
-   failure, and `number` of the entries shows whether the failure was stored after the data. */
+   failure, and the field `number` of the entries shows whether the failure was stored after the
+   data. */
 static inline enum rrcache_status rrcache_ask_alias(struct rrcache_shelf *shelf,
                                                     const struct rrcache_name *name,
                                                     const struct rrcache_question *question,
@@ -2013,7 +2018,7 @@ rrcache_sweep(struct rrcache_shelf *shelf, const struct rrcache_sweep_at *sweep,
 /* Writes to `moment` a timestamp before which no key of the shelf is fully expired. A sweep at an
    earlier timestamp removes nothing, and even a sweep at this timestamp may remove nothing. If the
    shelf holds a key but has not been swept yet, the timestamp is the earliest at which any entry
-   stored so far is fully expired. Entries that the shelf no longer holds count too. After a sweep,
+   stored so far is fully expired, even an entry that the shelf no longer holds. After a sweep,
    until an offer is made or a chapter is closed, the timestamp is later than the timestamp of the
    sweep. So a loop that sweeps at this timestamp until the timestamp is later than the current time
    always ends. The timestamp is UINT64_MAX if and only if the shelf holds no key. The call writes
@@ -2052,13 +2057,13 @@ static inline enum rrcache_status rrcache_sweep_some(struct rrcache_shelf *shelf
     return (enum rrcache_status)rrc_sweep_some(shelf, sweep, swept);
 }
 
-/* Limits the memory of a shelf. The call evicts the least recently used keys until the octets of
-   the remaining keys (`rrcache_sizes`) are at most `limit`, until it has removed `most` keys, or
-   until no key is left. The call writes to `trimmed` the number of keys that it removed, and the
-   octets of the remaining keys. If these octets are still above the limit, call the function again.
-   If a caller trims the shelf after each message, each trim evicts about as many octets as the
-   message added, so no call takes long. The entries of the remaining keys do not change. Needs the
-   write lock.
+/* Limits the memory of a shelf. The call evicts the least recently used keys until the remaining
+   keys use at most `limit` octets (`rrcache_sizes`), until it has removed `most` keys, or until no
+   key is left. The call writes to `trimmed` the number of keys that it removed, and the number of
+   octets that the remaining keys use. If this number of octets is still above the limit, call the
+   function again. If a caller trims the shelf after each message, each trim evicts about as many
+   octets as the message added, so no call takes long. The entries of the remaining keys do not
+   change. Needs the write lock.
 
    In a trim, the eviction of data is one event: an offer of these data with TTL 0, which clears the
    key. The eviction of a failure is two events: an offer of a failure with TTL 0, and a sweep at
@@ -2066,10 +2071,10 @@ static inline enum rrcache_status rrcache_sweep_some(struct rrcache_shelf *shelf
    0, or has held one since its last sweep, the trim begins with such a sweep, and `trimmed` does
    not count the keys that this sweep removes.
 
-   The octets that a trim limits are not all of the memory that a shelf uses. The first sweep of a
-   shelf visits all its keys, and from then on the shelf keeps the times at which its keys expire.
-   RRCACHE_ENTRY_OCTETS counts one such time for each key, but the shelf may keep more such times
-   for a while. SECURITY.md says how much memory trimmed shelves used in tests.
+   A trim does not limit all of the memory that a shelf uses. The first sweep of a shelf visits all
+   its keys, and from then on the shelf keeps the times at which its keys expire.
+   RRCACHE_ENTRY_OCTETS includes room for one such time for each key, but the shelf may keep more
+   such times for a while. SECURITY.md reports how much memory trimmed shelves used in tests.
 
    Returns RRCACHE_BAD_RULES if `limit` or `most` is 0, and RRCACHE_MOMENT_TOO_LARGE if the
    timestamp is above 2^40. In both cases, the call does nothing. The call may return RRCACHE_MEMORY
@@ -2132,8 +2137,8 @@ static inline enum rrcache_status rrcache_take_chapters(struct rrcache_shelf *sh
 }
 
 /* Stops recording, and moves the recorded chapters into a handle that holds no chapters: first the
-   closed chapters that were not yet taken, and then the open chapter, which the call closes. The
-   call writes the number of these chapters to `count`, which is 0 if the shelf did not record.
+   closed chapters that have not been taken yet, and then the open chapter, which the call closes.
+   The call writes the number of these chapters to `count`, which is 0 if the shelf did not record.
    Replies do not change, and no key is lost. Returns RRCACHE_HAS_CHAPTERS if the handle already
    holds chapters, and RRCACHE_HISTORY_FULL if the open chapter has the number 2^62. After
    RRCACHE_HISTORY_FULL or RRCACHE_MEMORY, the shelf still records, and `rrcache_stop_and_drop` can
@@ -2142,8 +2147,8 @@ static inline enum rrcache_status rrcache_take_chapters(struct rrcache_shelf *sh
    If this call directly follows `rrcache_record`, the handle then holds one chapter, which has no
    events. The lines of this chapter list all entries of the shelf, so a caller can save the
    contents of the shelf in this way. No call makes a shelf from such a chapter, but a caller can
-   offer each entry to an empty shelf, with the timestamp, rank and TTL in the line of the entry, in
-   the order of event numbers. */
+   offer the entries to an empty shelf, in the order of their event numbers, each with the
+   timestamp, rank and TTL in its line. */
 static inline enum rrcache_status rrcache_stop_recording(struct rrcache_shelf *shelf,
                                                          struct rrcache_chapters *chapters,
                                                          uint64_t *count)
@@ -2160,10 +2165,10 @@ static inline enum rrcache_status rrcache_stop_recording(struct rrcache_shelf *s
    its LF, and the number of octets that it wrote to the buffer. The latter number is 0 if `from` is
    at or after the end of the line. The text of a chapter has a first line with the number of the
    chapter and the rules of the shelf, a line for each key that was cached when the chapter began,
-   and a line for each event. The lines have the form of an archive (docs/FORMATS.md). Returns
-   RRCACHE_NO_CHAPTERS if the handle holds no chapters, and RRCACHE_NO_LINE if there is no such line
-   or no such chapter. The call allocates memory for the whole line, and frees this memory before it
-   returns. Needs no lock. */
+   and a line for each event. The lines have the same form as in an archive (docs/FORMATS.md).
+   Returns RRCACHE_NO_CHAPTERS if the handle holds no chapters, and RRCACHE_NO_LINE if there is no
+   such line or no such chapter. The call allocates memory for the whole line, and frees this memory
+   before it returns. Needs no lock. */
 static inline enum rrcache_status rrcache_chapter_line(struct rrcache_chapters *chapters,
                                                        const struct rrcache_place *place,
                                                        uint8_t *buffer, size_t buffer_size,
@@ -2243,9 +2248,9 @@ static inline enum rrcache_status rrcache_free_chapters(struct rrcache_chapters 
 /* Writes the sizes of a shelf: the number of keys, the number of recorded events in the open
    chapter, the number of closed chapters, and the number of octets that the keys use. The number of
    keys includes fully expired keys that have not been swept yet. While the shelf does not record,
-   the numbers of events and chapters are 0. There are three kinds of key: a name, a class and a
-   type, for the RRset or NODATA of this type; a name and a class, for the NXDOMAIN; and a name, a
-   class and a type, for the resolution failure of this type. Needs only the read lock.
+   the numbers of events and chapters are 0. There are three kinds of key: for the RRset or NODATA
+   of a name, a class and a type; for the NXDOMAIN of a name and a class; and for the resolution
+   failure of a name, a class and a type. Needs only the read lock.
 
    The octets are approximately the memory that the keys use. A key uses RRCACHE_ENTRY_OCTETS, plus
    the octets for its name. An RRset uses RRCACHE_SHARED_OCTETS, plus the octets for the rdata of
@@ -2256,11 +2261,11 @@ static inline enum rrcache_status rrcache_free_chapters(struct rrcache_chapters 
    more than RRCACHE_INLINE_OCTETS octets also use RRCACHE_BLOCK_OCTETS and their own size. A name
    uses RRCACHE_SHARED_OCTETS more than rdata of the same size.
 
-   The shelf updates these counts whenever keys change, so the time of the call does not grow with
-   the number of keys. The number of octets leaves out two things. The first is the events and
-   chapters, which keep even the data of evicted, replaced or swept keys. The second is the names
-   and expiry times of evicted keys: a shelf that has been swept keeps them until these keys would
-   have expired. If the shelf holds n keys, it keeps the names and expiry times of at most 2n + 64
+   The shelf updates its counts of keys and octets whenever keys change, so the time of the call
+   does not grow with the number of keys. The number of octets does not include the events and
+   chapters, which keep even the data of evicted, replaced or swept keys. Nor does it include the
+   names and expiry times of evicted keys: a shelf that has been swept keeps them until these keys
+   would have expired. If the shelf holds n keys, it keeps these names and times for at most 2n + 64
    evicted keys. */
 static inline enum rrcache_status rrcache_sizes(const struct rrcache_shelf *shelf,
                                                 struct rrcache_usage *sizes)
