@@ -27,14 +27,15 @@
      that does not move its entry in the LRU order takes only the place of its thread or, if that
      place is taken, another place. Such look-ups do not block each other, even for the same name,
      as long as there are at least as many places as threads. A call that changes a shelf keeps new
-     look-ups out of the shelf, and waits for the look-ups that have begun. No call holds locks of
-     two shelves at the same time.
+     look-ups out of the shelf, and waits until the look-ups that have begun are finished. No call
+     holds locks of two shelves at the same time.
    - If a thread repeats a look-up in the same second, and the name is in lower case, the library
      may copy the answer from a memo, which is a saved copy of an earlier answer. The library does
      so only if nothing in the shelf of the name has changed since it gave that answer. Only
-     negative answers and answers with a single RRset have memos. A look-up that a memo answers
-     takes no place. Its result and its effect on the counters are the same as without a memo.
-   - ThreadSanitizer cannot see the locks of the built library. To run a program under
+     negative answers and answers with a single RRset have memos. A look-up that is answered from a
+     memo takes no place. The result of this look-up and its effect on the counters are the same as
+     without a memo.
+   - ThreadSanitizer cannot see the locks in the compiled library. To run a program under
      ThreadSanitizer, compile the files of lib/ with the same sanitizer, and link them before the
      shared library. The static library contains the same functions, so if you link it instead, the
      linker also needs `-Wl,--allow-multiple-definition`. ThreadSanitizer may still falsely report
@@ -43,9 +44,9 @@
    - Eviction is LRU. But a look-up does not always move the entry that it finds to the front of the
      LRU order, because a move changes the shelf. In a shelf that is at least three quarters full,
      by octets or by keys, a look-up moves its entry if more than a quarter of the shelf's keys may
-     have been used since the last use of that entry. In all other cases a look-up does not move its
-     entry, with two exceptions. If most of the recent look-ups had to move their entries, the next
-     few look-ups move theirs too. With `exact_recency`, and while histories are being recorded,
+     have been used since the last use of that entry. Otherwise a look-up moves its entry only in
+     two cases. First, if most of the recent look-ups had to move their entries, the next few
+     look-ups move theirs too. Second, with `exact_recency`, and while histories are being recorded,
      every look-up moves its entry. docs/RULES.md says which LRU order a caller can rely on.
 
    Memory
@@ -60,11 +61,11 @@
      `octets`, and also for the memory that the next item describes. The sum is about 2.575 times
      `octets`, plus 4 octets for each key that `keys` allows. SECURITY.md has the measurements
      behind the factor of two and a half, and says what was not measured.
-   - In addition, `rrcache_open` allocates the places, memos of answers, and a filter of the names
-     that may be aliases. All memos together use at most 1/16 of `octets`, and at most about 235 KiB
-     times `readers`. The filter of aliases uses at most about 1/80 of `octets`, and at most 128 KiB
-     for each shelf. A second filter, of the names that may have an NXDOMAIN or a failure, uses 2 to
-     4 octets for each key that `keys` allows, regardless of `octets`: 8 MiB with the default number
+   - In addition, `rrcache_open` allocates the places, the memos, and a filter of the names that may
+     be aliases. All memos together use at most 1/16 of `octets`, and at most about 235 KiB times
+     `readers`. The filter of aliases uses at most about 1/80 of `octets`, and at most 128 KiB for
+     each shelf. A second filter, of the names that may have an NXDOMAIN or a failure, uses 2 to 4
+     octets for each key that `keys` allows, regardless of `octets`: 8 MiB with the default number
      of keys. So if `octets` is small, set `keys` too.
    - A cache has at most 64 shelves of at most 65,536 keys each, so it has at most 4,194,304 keys.
      An RRset of one address with a short name uses 320 octets. So a cache holds at most about 1.3
@@ -72,8 +73,8 @@
    - The configuration of an open cache cannot be changed. Memory that the library frees returns to
      malloc, which decides whether to return it to the operating system.
    - An RRset that would use more memory than its shelf's share of `octets` is not stored. In tests,
-     the largest RRset of a response used 242,208 octets. So with 64 shelves, set `octets` to at
-     least 16 MiB. If `octets` has to be smaller, use fewer shelves.
+     the largest RRset of a response used 242,208 octets. So that each of 64 shelves can store such
+     an RRset, set `octets` to at least 16 MiB. If `octets` has to be smaller, use fewer shelves.
    - Look-ups allocate memory only while histories are being recorded (`rrcache_record_all`).
      `rrcache_next`, `rrcache_stats`, `rrcache_stats_of` and `rrcache_stats_text` never allocate. If
      malloc fails in a call, but not during an eviction, the call returns RRCACHE_MEMORY. The
@@ -111,9 +112,9 @@
    - After RRCACHE_HISTORY_FULL, the shelf whose event numbers are used up can no longer store
      anything. In this case, close the cache and open a new one. At 10^9 events a second in one
      shelf, the numbers last for 146 years.
-   - If a field of `struct rrcache_config` is 0, its default applies. If the caller passes
-     `rrcache_store` a response with a limit of 0, the limit of the cache applies. For the functions
-     of rrcache_shelf.h, a limit of 0 or a seed of zeros is an error.
+   - If a field of `struct rrcache_config` is 0, its default applies. If a limit in the `struct
+     rrcache_response` of an `rrcache_store` call is 0, the limit of the cache applies. For the
+     functions of rrcache_shelf.h, a limit of 0 or a seed of zeros is an error.
 
    ABI
    - The library reads or writes every struct of this header. So each of these structs keeps its
@@ -123,9 +124,9 @@
 
 #include "rrcache_shelf.h"
 
-/* RRCACHE_API begins each function declaration of this header. bin/build-c exports these functions,
-   and tools/manual.py makes man pages from their comments. RRCACHE_API expands to nothing, because
-   a list of names, not a visibility attribute, selects the exports. */
+/* Each function declaration of this header begins with RRCACHE_API. bin/build-c exports these
+   functions, and tools/manual.py makes man pages from their comments. RRCACHE_API expands to
+   nothing, because a list of names, not a visibility attribute, selects the exports. */
 #define RRCACHE_API
 
 #ifdef __cplusplus
@@ -147,8 +148,8 @@ struct rrcache_config {
                            number of processors, but at most 16 */
     uint64_t max_stale; /* the number of seconds past its TTL for which an RRset may be served: 0 to
                            604,800 (RFC 8767 section 4). RFC 8767 section 5 suggests 1 to 3 days */
-    struct rrcache_limits limits; /* the limits for responses; a field that is 0 means the value of
-                                     the same field of RRCACHE_LIMITS */
+    struct rrcache_limits limits; /* the limits for responses; for a field that is 0, the value of
+                                     the same field of RRCACHE_LIMITS applies */
     uint8_t seed[16];             /* 16 secret random octets, or zeros for random octets from the
                                      system */
     bool exact_recency; /* whether every look-up moves its entry to the front of the LRU order */
@@ -197,13 +198,14 @@ struct rrcache_answer {
                                 records. `kind` is then RRCACHE_MISS, and a query to a server will
                                 not help */
     bool with_dnames;        /* set by the caller. If true, the DNAME RRset from which a CNAME
-                                record was synthesized precedes this record, if the DNAME RRset is
-                                cached or is in the response (RFC 6672 section 3.1). For each
-                                answer, the library looks up at most 16 possible owners of DNAME
-                                RRsets, and each counts as one more look-up */
+                                record was synthesized precedes the CNAME record, provided that the
+                                DNAME RRset is cached or is in the response (RFC 6672 section 3.1).
+                                For each answer, the library looks up at most 16 possible owners of
+                                DNAME RRsets, and each counts as one more look-up */
     uint64_t retry_from;     /* with RRCACHE_FAILED, the timestamp from which to try again;
-                                otherwise 0. For a stale answer after a failure of the question, a
-                                second look-up with RRCACHE_NO_STALE returns this timestamp */
+                                otherwise 0. If an answer is stale and the question has failed
+                                recently, a second look-up with RRCACHE_NO_STALE returns this
+                                timestamp */
     struct rrcache_name end; /* the name at the end of the CNAME chain. With RRCACHE_MISS, it is the
                                 name to query for. For a delegation, it is the owner of the NS
                                 RRset */
@@ -241,7 +243,7 @@ struct rrcache_report {
                                  zeros */
 };
 
-/* Counters of a cache or of one shelf. Each name of a CNAME chain counts as one look-up.
+/* The counters of a cache or of one shelf. Each name of a CNAME chain counts as one look-up.
    `rrcache_lookup_delegation` counts one look-up for each name that it tries. */
 struct rrcache_stats {
     uint64_t hits;      /* look-ups answered by an unexpired RRset */
@@ -265,10 +267,10 @@ enum { RRCACHE_STATS_OCTETS = 384 };
    `size` octets of the text of one shelf; `shelf` is the number of that shelf, counted from 0. The
    callback must process all these octets, and must return 0 to continue or nonzero to stop. `state`
    is the pointer that the caller passed. During the callback, the library holds no lock of a shelf,
-   but it holds the lock that guards the start and the end of recording. A call that waits for this
-   lock would never return, so the callback must not call any function on this cache. The callback
-   must also return: its thread must not be canceled, and it must not call `longjmp` or throw a C++
-   exception. */
+   but it holds the lock that guards the start and the end of recording. A call from the callback
+   that needs this lock would never return, so the callback must not call any function on this
+   cache. The callback must also return: its thread must not be canceled, and it must not call
+   `longjmp` or throw a C++ exception. */
 typedef int (*rrcache_shelf_sink)(void *state, uint64_t shelf, const void *octets, size_t size);
 
 /* Opens a cache, and writes a pointer to it to `*cache`. A null `config` means a configuration of
@@ -321,14 +323,14 @@ RRCACHE_API enum rrcache_status rrcache_lookup_delegation(struct rrcache *cache,
                                                           struct rrcache_answer *answer);
 
 /* Gets the next RRset of an answer, or the first RRset if `*rrset` is all zeros. Returns true if
-   there is an RRset. At the end of the answer, returns false and sets `*rrset` to zeros again. The
-   pointers in `rrset` point into the buffer of the answer. */
+   there is such an RRset. At the end of the answer, returns false and sets `*rrset` to zeros again.
+   The pointers in `rrset` point into the buffer of the answer. */
 RRCACHE_API bool rrcache_next(const struct rrcache_answer *answer, struct rrcache_rrset *rrset);
 
-/* Reads the response to a query as `rrcache_read_response` does, and stores the RRsets, the
-   negative answer and the failure of the response that are relevant to the query, each in the shelf
-   of its name. An RRset or a negative answer that would use more memory than one shelf may use is
-   left out. If a limit of `response` is 0, the limit of the cache applies.
+/* Reads the response to a query as `rrcache_read_response` does, and stores the data that are
+   relevant to the query: RRsets, a negative answer or a failure. Each of these is stored in the
+   shelf of its name. An RRset or a negative answer that would use more memory than one shelf may
+   use is left out. If a limit of `response` is 0, the limit of the cache applies.
 
    Returns RRCACHE_OTHER_QUERY if the octets do not answer the query: the caller then has to drop
    them and keep waiting (RFC 5452 section 9.1). RRCACHE_NO_QUESTION and, unless TC is set,
@@ -341,11 +343,11 @@ RRCACHE_API bool rrcache_next(const struct rrcache_answer *answer, struct rrcach
    RRCACHE_BAD_MESSAGE does not mean that the server has failed.
 
    To read a response without storing it, call `rrcache_read_response` with a `struct rrcache_parts`
-   of one part and any seed other than zeros, and with limits that are not 0. That call compares the
-   response with the query as `rrcache_store` does. Then `rrcache_tell_response` returns the kind
-   and RCODE, and `rrcache_tell_offer` returns each relevant RRset, even one with TTL 0. In this
-   way, a resolver with several servers to ask can see that one of them has failed, without storing
-   a failure.
+   that has one part and any seed other than zeros, and with limits that are not 0. That call
+   compares the response with the query as `rrcache_store` does. Then `rrcache_tell_response`
+   returns the kind and RCODE, and `rrcache_tell_offer` returns each relevant RRset, even one with
+   TTL 0. In this way, a resolver with several servers to ask can see that one of them has failed,
+   without storing a failure.
 
    The RRsets of a referral are stored, but are not in `answer`. `name` of `report` is the zone of
    the referral, `rrcache_lookup_delegation` returns the NS RRset, and look-ups with `takes_glue`
@@ -369,11 +371,11 @@ RRCACHE_API bool rrcache_next(const struct rrcache_answer *answer, struct rrcach
    size. The limits on what is relevant, and therefore stored, are lower: fewer CNAME records are
    followed, and only smaller RRsets are relevant. In `answer`, rdata of types A and AAAA may have
    any length. If the query is of a type that is not kept, such as NAPTR, each record is returned as
-   an RRset of its own, and RRCACHE_NODATA means that an SOA record denies the type. If the query is
-   of type NSEC or RRSIG, and the response has such records of the name of the query, `answer`
+   a separate RRset, and RRCACHE_NODATA means that an SOA record denies the type. If the query is of
+   type NSEC or RRSIG, and the response has records of this type for the name of the query, `answer`
    contains these records. No CNAME record is then followed, even if the kind of the response is
    RRCACHE_RESPONSE_ALIAS. If only `report` contains the result, as for a negative response without
-   an SOA record, `kind` is RRCACHE_MISS.
+   an SOA record, `kind` of `answer` is RRCACHE_MISS.
 
    If the response contains only the beginning of a CNAME chain, its kind is RRCACHE_RESPONSE_ALIAS,
    and `kind` of the answer is RRCACHE_MISS. Keep the CNAME RRsets of this answer, and look up `end`
@@ -397,9 +399,9 @@ RRCACHE_API enum rrcache_status rrcache_store(struct rrcache *cache,
                                               struct rrcache_report *report,
                                               struct rrcache_answer *answer);
 
-/* Stores an RRset of the caller under the same rules as `rrcache_offer_set`, and writes the outcome
-   to `outcome` (`enum rrcache_outcome`). Returns RRCACHE_TOO_LARGE if the RRset might use more
-   memory than one shelf may use for all its keys. The other errors are those of
+/* Stores an RRset from the caller under the same rules as `rrcache_offer_set`, and writes the
+   outcome to `outcome` (`enum rrcache_outcome`). Returns RRCACHE_TOO_LARGE if the RRset might use
+   more memory than one shelf may use for all its keys. The other errors are those of
    `rrcache_offer_set`. */
 RRCACHE_API enum rrcache_status rrcache_store_set(struct rrcache *cache,
                                                   const struct rrcache_set *set, uint32_t *outcome);
@@ -459,9 +461,9 @@ RRCACHE_API enum rrcache_status rrcache_sweep_all(struct rrcache *cache, uint64_
 #pragma GCC diagnostic ignored "-Wshadow"
 #endif
 
-/* Writes to `stats` the sums over all shelves: of the counters since the cache was opened, and of
-   the keys and octets that the shelves hold now. The call reads one shelf after another. While it
-   reads a shelf, look-ups in that shelf wait, as they wait for a store. */
+/* Writes to `stats` the counters since the cache was opened, and the keys and octets that are held
+   now, each summed over all shelves. The call reads one shelf after another. While it reads a
+   shelf, look-ups in that shelf wait, as they wait for a store. */
 RRCACHE_API enum rrcache_status rrcache_stats(struct rrcache *cache, struct rrcache_stats *stats);
 
 #if defined __cplusplus && defined __GNUC__
@@ -500,7 +502,7 @@ RRCACHE_API enum rrcache_status rrcache_stop_recording_all(struct rrcache *cache
    chapter (segment) of an archive begins (docs/FORMATS.md). The text of a shelf shows its contents
    at one point in time, because other calls on the shelf wait while the call lists its keys. The
    call allocates memory for the keys of one shelf at a time. No call reads these contents back into
-   a cache. But a caller can store each entry in a new cache, with the rank, TTL and timestamp of
+   a cache. But a caller can store each entry in a new cache, with the rank, TTL and timestamp in
    its line, in the order of the event numbers. After a restart of the machine, CLOCK_BOOTTIME
    begins at zero again, so the caller must first convert the timestamps (docs/RULES.md, "Listing
    and saving keys"). docs/CAPTURES.md, "A wrong answer", says what a dump shows about an answer.
