@@ -378,7 +378,7 @@ RRCACHE_API bool rrcache_next(const struct rrcache_answer *answer, struct rrcach
    an SOA record, `kind` of `answer` is RRCACHE_MISS.
 
    If the response contains only the beginning of a CNAME chain, its kind is RRCACHE_RESPONSE_ALIAS,
-   and `kind` of the answer is RRCACHE_MISS. Keep the CNAME RRsets of this answer, and look up `end`
+   and `kind` of `answer` is RRCACHE_MISS. Keep the CNAME RRsets of this answer, and look up `end`
    next. Do not look up the name of the query again: if a CNAME record of the chain has TTL 0, it is
    not stored, and the look-up is a miss again.
 
@@ -461,9 +461,9 @@ RRCACHE_API enum rrcache_status rrcache_sweep_all(struct rrcache *cache, uint64_
 #pragma GCC diagnostic ignored "-Wshadow"
 #endif
 
-/* Writes to `stats` the counters since the cache was opened, and the keys and octets that are held
-   now, each summed over all shelves. The call reads one shelf after another. While it reads a
-   shelf, look-ups in that shelf wait, as they wait for a store. */
+/* Writes to `stats` what each counter has counted since the cache was opened, and the numbers of
+   keys and octets that are held now, each summed over all shelves. The call reads one shelf after
+   another. While it reads a shelf, look-ups in that shelf wait, as they wait for a store. */
 RRCACHE_API enum rrcache_status rrcache_stats(struct rrcache *cache, struct rrcache_stats *stats);
 
 #if defined __cplusplus && defined __GNUC__
