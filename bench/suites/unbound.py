@@ -59,9 +59,7 @@ BOUNDS = filled(
     "rdata, and counts the octets of what it stores and evicts. A store that evicts also takes "
     "three blocks of memory from `malloc` and frees three, and a store that replaces takes two and "
     "frees two. So changes of the C code alone cannot reach unbound's rates for random names. "
-    "Stores in which the proved call takes a name that is already made would come closer. So would "
-    "look-ups that read the filter of names with NXDOMAINs and failures before they search for the "
-    "key, because the processor could then wait for both at once.")
+    "Stores in which the proved call takes a name that is already made would come closer.")
 KINDS = {"hit": "asks that hit", "zipf": "asks by Zipf's law", "hot": "asks for one name",
          "replace": "puts that replace", "evict": "puts that evict"}
 # How tall the picture is, how tall its highest bar, and where the bars stand.
@@ -157,7 +155,7 @@ def events(program, kind, calls, names):
 def counts(program, kind, names):
     """The counts of one call."""
     few, many = (events(program, kind, it, names) for it in (FEW, MANY))
-    return [(more - less) / (MANY - FEW) for less, more in zip(few, many)]
+    return [max(0, more - less) / (MANY - FEW) for less, more in zip(few, many)]
 
 
 def counted(made, args):
