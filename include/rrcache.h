@@ -170,21 +170,21 @@ struct rrcache_request {
 /* The maximum number of CNAME records that a look-up follows. */
 enum { RRCACHE_MOST_ALIASES = 16 };
 
-/* A buffer of this size is large enough for every answer of a look-up, under two conditions: each
+/* A buffer of this size is large enough for every answer from a look-up, under two conditions: each
    CNAME RRset and each DNAME RRset has one record (RFC 2181 section 10.1), and the RRset at the end
    of the CNAME chain was received in a response. But a server may send CNAME RRsets of many
    records. Each of these RRsets is stored if it has at most 16,384 octets of rdata. An answer that
    contains such an RRset may need a larger buffer, and if the buffer is too small, the call returns
    RRCACHE_SMALL. If all RRsets of a look-up's answer were received in responses, a buffer of 1 MiB
-   is large enough for them. An answer of `rrcache_store` may need more than RRCACHE_ANSWER_OCTETS
+   is large enough for them. An answer from `rrcache_store` may need more than RRCACHE_ANSWER_OCTETS
    in two more cases: if the type of the query is ANY or a type that is not kept, such as RRSIG, or
-   if an RRset has more than 16,384 octets of rdata. If the buffer is too small for the answer of
+   if an RRset has more than 16,384 octets of rdata. If the buffer is too small for the answer from
    `rrcache_store`, everything is still stored, and the answer contains the RRsets that fit. */
 enum { RRCACHE_ANSWER_OCTETS = 65536 };
 
 /* The answer to a question: a list of RRsets, which `rrcache_next` returns one by one, and a kind.
    An answer has at most RRCACHE_MOST_ALIASES + 1 RRsets, and with DNAME RRsets up to
-   RRCACHE_MOST_ALIASES more. If the type of the query is ANY or is not kept, an answer of
+   RRCACHE_MOST_ALIASES more. If the type of the query is ANY or is not kept, an answer from
    `rrcache_store` may have more RRsets. The caller sets `buffer` and its size `room`, sets
    `with_dnames` to get DNAME RRsets, and initializes the other fields to 0. */
 struct rrcache_answer {
@@ -227,9 +227,9 @@ struct rrcache_rrset {
                                    no field identifies the shelf. So a caller that keeps data about
                                    entries, such as a security status, must find these data by a
                                    name together with `number`. The name is the owner or, in a
-                                   negative answer, `end`. In an answer of `rrcache_store`, `number`
-                                   and `age` are 0: docs/RULES.md, "DNSSEC", says how the caller
-                                   gets the number of stored data */
+                                   negative answer, `end`. In an answer from `rrcache_store`,
+                                   `number` and `age` are 0: docs/RULES.md, "DNSSEC", says how the
+                                   caller gets the number of stored data */
     size_t next;                /* the offset of the next RRset in the buffer */
 };
 
@@ -300,9 +300,9 @@ RRCACHE_API void rrcache_close(struct rrcache *cache);
    with the timers.
 
    CNAME RRsets before a miss are not yet an answer for a client: the resolver has to resolve `end`
-   next, and answers SERVFAIL if it cannot resolve that name. The cache does not combine queries: if
-   the look-ups of several clients miss with the same `end` and type, the caller itself has to send
-   a single query for all of them.
+   next, and has to answer SERVFAIL if it cannot resolve that name. The cache does not combine
+   queries: if the look-ups of several clients miss with the same `end` and type, the caller itself
+   has to send a single query for all of them.
 
    Returns RRCACHE_BAD_NAME if the name is not in wire form, RRCACHE_BAD_CHOICE if `mode` is not a
    value of `enum rrcache_mode`, RRCACHE_BAD_TYPE if the type is 0 or the class is not kept, and
@@ -365,22 +365,22 @@ RRCACHE_API bool rrcache_next(const struct rrcache_answer *answer, struct rrcach
    of lower rank than the cached data. So a waiting client gets the data that the server sent. If AA
    is clear and `lowest_ttl` is not set, an RRset with unequal TTLs is left out of `answer` too. If
    that RRset contains the data of the type, or a CNAME record that leads to them, `kind` of
-   `answer` is then RRCACHE_MISS. For a query of type ANY, `answer` contains all RRsets of the name
-   that are not left out in this way, although a look-up of type ANY never returns them. To fill
-   `answer`, the call follows at most RRCACHE_MOST_ALIASES CNAME records, and returns RRsets of any
-   size. The limits on what is relevant, and therefore stored, are lower: fewer CNAME records are
-   followed, and only smaller RRsets are relevant. In `answer`, rdata of types A and AAAA may have
-   any length. If the query is of a type that is not kept, such as NAPTR, each record is returned as
-   a separate RRset, and RRCACHE_NODATA means that an SOA record denies the type. If the query is of
-   type NSEC or RRSIG, and the response has records of this type for the name of the query, `answer`
-   contains these records. No CNAME record is then followed, even if the kind of the response is
-   RRCACHE_RESPONSE_ALIAS. If only `report` contains the result, as for a negative response without
-   an SOA record, `kind` of `answer` is RRCACHE_MISS.
+   `answer` is then RRCACHE_MISS. For a query of type ANY, `answer` contains all RRsets of the name,
+   except those that are left out for unequal TTLs. A look-up of type ANY, however, never returns an
+   RRset from a response. To fill `answer`, the call follows at most RRCACHE_MOST_ALIASES CNAME
+   records, and returns RRsets of any size. The limits on what is relevant, and therefore stored,
+   are lower: fewer CNAME records are followed, and only smaller RRsets are relevant. In `answer`,
+   rdata of types A and AAAA may have any length. If the query is of a type that is not kept, such
+   as NAPTR, each record is returned as a separate RRset, and RRCACHE_NODATA means that an SOA
+   record denies the type. If the query is of type NSEC or RRSIG, and the response has records of
+   this type for the name of the query, `answer` contains these records. No CNAME record is then
+   followed, even if the kind of the response is RRCACHE_RESPONSE_ALIAS. If only `report` contains
+   the result, as for a negative response without an SOA record, `kind` of `answer` is RRCACHE_MISS.
 
    If the response contains only the beginning of a CNAME chain, its kind is RRCACHE_RESPONSE_ALIAS,
    and `kind` of `answer` is RRCACHE_MISS. Keep the CNAME RRsets of this answer, and look up `end`
    next. Do not look up the name of the query again: if a CNAME record of the chain has TTL 0, it is
-   not stored, and the look-up is a miss again.
+   not stored, and the look-up misses again.
 
    Check `kind` of the answer first. Check the kind of the response only if the answer is a miss,
    because records of a type that is not kept do not affect the kind of a response. If the query is
@@ -461,9 +461,9 @@ RRCACHE_API enum rrcache_status rrcache_sweep_all(struct rrcache *cache, uint64_
 #pragma GCC diagnostic ignored "-Wshadow"
 #endif
 
-/* Writes to `stats` what each counter has counted since the cache was opened, and the numbers of
-   keys and octets that are held now, each summed over all shelves. The call reads one shelf after
-   another. While it reads a shelf, look-ups in that shelf wait, as they wait for a store. */
+/* Writes to `stats` the counts since the cache was opened, and the numbers of keys and octets that
+   are held now. Each number is the sum over all shelves. The call reads one shelf after another.
+   While it reads a shelf, look-ups in that shelf wait, as they wait for a store. */
 RRCACHE_API enum rrcache_status rrcache_stats(struct rrcache *cache, struct rrcache_stats *stats);
 
 #if defined __cplusplus && defined __GNUC__
