@@ -25,22 +25,22 @@
    other types and classes.
 
    docs/RULES.md describes the rules of the cache. Some names in this header differ from the terms
-   on that page: a `moment` is a timestamp, `trust` is a rank, `left` is a remaining TTL, and `data`
-   are rdata (docs/GLOSSARY.md). docs/UPGRADING.md explains how to change a program that was written
-   for version 1 of the library.
+   in that document: a `moment` is a timestamp, `trust` is a rank, `left` is a remaining TTL, and
+   `data` are rdata (docs/GLOSSARY.md). docs/UPGRADING.md explains how to change a program that was
+   written for version 1 of the library.
 
    Ownership
    - The caller owns the handles, the locks and the buffers, and the library keeps no pointer to any
      of them after a call. The library owns the memory that it allocates. No pointer to this memory
      leaves the library, except inside a handle. `rrcache_free` frees the memory of a shelf.
    - Initialize a handle to zeros: `struct rrcache_shelf shelf = {0};`. The handle then holds no
-     shelf. After that, only the library may write to the handle. The caller may move a handle in
-     memory while no call uses the handle, but must not use more than one copy of it. The same rules
-     apply to `struct rrcache_offers`, which holds the offers of a message, and to
+     shelf. Once the handle is initialized, only the library may write to it. The caller may move a
+     handle in memory while no call uses the handle, but must not use more than one copy of it. The
+     same rules apply to `struct rrcache_offers`, which holds the offers of a message, and to
      `struct rrcache_chapters`, which holds chapters that were taken from a shelf.
      `rrcache_free_offers` frees the offers, and `rrcache_free_chapters` frees the chapters.
-   - Initialize a `struct rrcache_name` to zeros too. The struct then holds no name. After that,
-     only the library may write to the struct, but the caller may copy it.
+   - Initialize a `struct rrcache_name` to zeros too. The struct then holds no name. Once the struct
+     is initialized, only the library may write to it, but the caller may copy it.
 
    Locking
    - Hold the lock of a shelf during every call that takes the handle of this shelf. Five calls are
@@ -55,7 +55,7 @@
      `rrcache_read_response`, `rrcache_read_message_unchecked`, `rrcache_tell_response`,
      `rrcache_tell_offer` and `rrcache_free_offers`. Only one call at a time may use a handle for
      offers. This restriction also applies to `rrcache_offer_read` and `rrcache_offer_one`, because
-     they write not only to the handle of the shelf, but also to the handle of the offers.
+     they write to the handle for the offers as well as to the handle of the shelf.
    - `rrcache_take_chapters` and `rrcache_stop_recording` need the write lock of the shelf. The
      following calls on taken chapters need neither the shelf nor a lock: `rrcache_chapter_line`,
      `rrcache_write_line`, `rrcache_write_chapter` and `rrcache_free_chapters`. While they run,
@@ -90,17 +90,17 @@
      changes neither the history nor the replies. Five functions are exceptions, because they may
      have done part of their work when they fail: `rrcache_offer_read`,
      `rrcache_offer_message_unchecked`, `rrcache_offer_part_unchecked`, `rrcache_sweep_some` and
-     `rrcache_trim`. These functions make several offers, sweeps or evictions, one after another. If
-     one of these steps fails, the earlier steps are not undone. The output `counts` then reports
+     `rrcache_trim`. These functions perform several offers, sweeps or evictions, one after another.
+     If one of these steps fails, the earlier steps are not undone. The output `counts` then reports
      how many of the earlier offers had each outcome, and the output `swept` reports how many keys
      the earlier sweeps removed. If `rrcache_write_chapter` or `rrcache_write_line` fails, it may
      have written the beginning of the text.
    - If `rrcache_take_chapters` fails, the chapters stay in the shelf. If `rrcache_stop_recording`
      fails, the shelf continues to record.
    - If a call fails, its outputs are unmodified, with two exceptions. A call that returns
-     RRCACHE_SMALL writes to `told`, `name` and `size`. A call that has `counts` or `swept` as an
-     output writes to this output, unless the error is RRCACHE_NULL, RRCACHE_OVERLAP,
-     RRCACHE_NO_SHELF or RRCACHE_NO_OFFERS.
+     RRCACHE_SMALL still writes to its outputs `told`, `name` and `size`. A call that has `counts`
+     or `swept` as an output writes to this output, unless the error is RRCACHE_NULL,
+     RRCACHE_OVERLAP, RRCACHE_NO_SHELF or RRCACHE_NO_OFFERS.
 
    A message about names in several shelves
    - A response may contain data of names that do not belong to the shelf of the question's name,
@@ -110,8 +110,8 @@
      shelves, the resolver takes the lock of the shelf and calls `rrcache_offer_read` with the
      number of the shelf, counted from 0. Each call offers only the data of names in one shelf, but
      together the calls offer everything that `rrcache_read_response` read. The data of each name
-     are then in the shelf that `rrcache_make_name`, with the same `struct rrcache_parts`,
-     determines for this name. No event is added to the history of a shelf that the message does not
+     are then in the shelf that `rrcache_make_name` determines for this name with the same
+     `struct rrcache_parts`. No event is added to the history of a shelf that the message does not
      concern.
    - `rrcache_offer_part_unchecked` reads a message, and offers the data of the names in one shelf
      to that shelf. For several shelves, the caller needs one call for each shelf, and each call
@@ -135,8 +135,8 @@
      data of names at or below the zone whose servers were queried. Such a function does not compare
      the message with a query. The caller must check the addresses and ports, the identifier and the
      question of the message before it calls such a function.
-   - If TC (the bit 0x02 of the third octet) is set, a message is truncated, and nothing from it is
-     offered (RFC 2181 section 9). If the truncated message can be read, the call that reads it
+   - A message is truncated if TC (the bit 0x02 of the third octet) is set. Nothing from a truncated
+     message is offered (RFC 2181 section 9). If such a message can be read, the call that reads it
      returns RRCACHE_DONE, all fields of `counts` are 0, no event is written, and
      `rrcache_tell_response` reports that TC is set. If the message ends inside a record, the call
      returns RRCACHE_BAD_MESSAGE. In either case, the caller must send the query again over TCP. A
@@ -156,19 +156,20 @@
      question may be a miss. Apart from evictions, there are six possible causes: the answer is at
      the end of a CNAME chain, or the chain is too long; the TTL is 0; the type is not kept; the
      records of an RRset have different TTLs, AA is clear and `lowest_ttl` is not set; the response
-     is negative but has no SOA record; or the RRset is not relevant. `rrcache_tell_response` still
-     returns the kind of the response, and `rrcache_tell_offer` returns even an RRset with TTL
-     0. The caller can answer the waiting client from the output of these calls. The caller has to
-     parse the message only if it needs data that are not offered, such as data of a type that is
-     not kept.
+     is negative but has no SOA record; or the RRset is not relevant. Even then,
+     `rrcache_tell_response` returns the kind of the response, and `rrcache_tell_offer` returns each
+     offer, including an RRset with TTL 0. The caller can answer the waiting client from the output
+     of these calls. The caller has to parse the message only if it needs data that are not offered,
+     such as data of a type that is not kept.
    - If nothing is stored from a message that answers its question, a failure that is cached for the
      question is still returned as RRCACHE_FAILED until the failure expires. To end the failure
      earlier, call `rrcache_offer_failure` with `ttl` 0.
    - Likewise, a message from which nothing is stored does not change a cached RRset, unless an
      offer of the message has TTL 0 and clears the RRset. The unchanged RRset may still be returned,
-     even as a stale answer. But under RFC 8767 section 4, the RRset counts as refreshed if the
-     message is an authoritative response (AA set) with RCODE NOERROR or NXDOMAIN. So after such a
-     message, the resolver calls `rrcache_offer_set` with `ttl` 0 to clear the RRset.
+     even as a stale answer. But under RFC 8767 section 4, an authoritative response (AA set) with
+     RCODE NOERROR or NXDOMAIN counts as a refresh, and the old RRset should no longer be returned.
+     So after such a response, the resolver calls `rrcache_offer_set` with `ttl` 0 to clear the
+     RRset.
    - If the RCODE of a response is neither NOERROR nor NXDOMAIN, a failure of its question is
      offered, even if the RCODE is FORMERR, NOTIMP or REFUSED. If no cached data may answer the
      question, the reply is then RRCACHE_FAILED until the failure expires or a later entry for the
@@ -185,11 +186,11 @@
      more. The field `age` of `struct rrcache_entry` is not this age, but a number of uses.
    - If the caller's clock is set back by some seconds, all cached data live that many seconds
      longer. Data that had expired may answer again, and may prevent data of lower rank from being
-     stored, unless the expired data were already replaced, cleared, evicted or swept. If the clock
-     is set forward, data expire early, and a sweep then removes entries that are fully expired
-     according to that clock. Use a clock that cannot be set, and that keeps running while the
-     machine is suspended. On Linux, CLOCK_BOOTTIME is such a clock, but CLOCK_MONOTONIC stops
-     during suspension.
+     stored, unless they have already been replaced, cleared, evicted or swept. If the clock is set
+     forward, data expire early, and a sweep then removes entries that are fully expired according
+     to that clock. Use a clock that cannot be set, and that keeps running while the machine is
+     suspended. On Linux, CLOCK_BOOTTIME is such a clock, but CLOCK_MONOTONIC stops during
+     suspension.
    - The order of the calls, not the order of their timestamps, decides which of two events is
      later.
    - An entry has expired when its age is at least its TTL. An entry is *fully expired* when it can
@@ -231,15 +232,15 @@
      and a line for each event. The text of all chapters of one recording, in the order in which
      they were taken, is an archive. The program `rrcache --audit-history` audits an archive: it
      checks that the history in the archive follows the rules. Chapters are numbered from 1, and
-     chapters that were not recorded have numbers too. So the number of the first chapter of a
-     recording is 2 or higher.
+     chapters that were not recorded have numbers too. A recording begins with a new chapter, so the
+     number of its first chapter is 2 or higher.
    - Event numbers are used up if the next event would have the number 2^62, even if the shelf does
      not record. Chapter numbers are used up if the open chapter is full and has the number 2^62.
      Once event numbers or chapter numbers are used up, each call that has to write an event returns
-     RRCACHE_HISTORY_FULL, even after chapters have been dropped, but `rrcache_peek` still returns
-     replies. The resolver then frees the shelf and makes a new, empty one; with `struct rrcache`,
-     the resolver closes the cache and opens a new one. At 10^9 events a second, event numbers are
-     used up after 146 years.
+     RRCACHE_HISTORY_FULL, even after chapters have been dropped. However, `rrcache_peek` still
+     returns replies. After RRCACHE_HISTORY_FULL, the resolver frees the shelf and makes a new,
+     empty one; with `struct rrcache`, the resolver closes the cache and opens a new one. At 10^9
+     events a second, event numbers are used up after 146 years.
 
    Which error is returned
    - If several errors apply, the call returns the first one in this list: RRCACHE_NULL;
@@ -344,8 +345,8 @@ enum rrcache_status {
     RRCACHE_NO_OFFERS = 18,       /* the handle holds no offers, or none with this number */
     RRCACHE_HAS_OFFERS = 19,      /* the handle already holds offers */
     RRCACHE_OTHER_QUERY = 20,     /* the identifier or the question of the message differs from that
-                                     of the query, or the message is itself a query or too short for
-                                     a header */
+                                     of the query, the message is itself a query, or it is too short
+                                     for a header */
     RRCACHE_NO_CHAPTERS = 21,     /* the handle holds no chapters */
     RRCACHE_HAS_CHAPTERS = 22,    /* the handle already holds chapters */
     RRCACHE_NO_LINE = 23,         /* there is no such chapter, or the chapter has no such line */
@@ -375,7 +376,7 @@ enum rrcache_kind {
     RRCACHE_FAILED = 6    /* the cache holds nothing that may answer, but holds a recent failure: an
                              unexpired failure that was stored later than all other entries for the
                              question. A resolver answers with SERVFAIL until `retry_from` (RFC
-                             9520). As the kind of an entry, any failure */
+                             9520). As the kind of an entry, RRCACHE_FAILED means any failure */
 };
 
 /* The classes whose data are kept (RFC 1035 section 3.2.4). */
@@ -387,8 +388,8 @@ enum rrcache_class { RRCACHE_IN = 1, RRCACHE_CH = 3, RRCACHE_HS = 4 };
 enum rrcache_purpose { RRCACHE_ANYTHING = 1, RRCACHE_QUESTION = 2 };
 
 /* When a stale answer is acceptable (RFC 8767 section 5). RRCACHE_NO_STALE: never.
-   RRCACHE_STALE_IF_FAILED: only if a failure is recent (see RRCACHE_FAILED). RRCACHE_STALE_NOW:
-   with or without a failure. */
+   RRCACHE_STALE_IF_FAILED: only if there is a recent failure (see RRCACHE_FAILED).
+   RRCACHE_STALE_NOW: with or without a failure. */
 enum rrcache_mode { RRCACHE_NO_STALE = 1, RRCACHE_STALE_IF_FAILED = 2, RRCACHE_STALE_NOW = 3 };
 
 /* The rank of data (RFC 2181 section 5.4.1), from low to high. A negative answer about the name of
@@ -448,9 +449,9 @@ enum rrcache_response_kind {
                                       that there are data, and is not a referral; perhaps the server
                                       does not serve the zone. A response with AA set is not a
                                       referral, even if it has NS records below the zone. Data of a
-                                      type that is not kept are skipped. So if the question is of
-                                      such a type, except ANY, a NOERROR response has this kind
-                                      unless the response is a referral or an alias */
+                                      type that is not kept are skipped. So for a question of any
+                                      such type other than ANY, a NOERROR response has this kind
+                                      unless it is a referral or an alias */
 };
 
 /* The reason why octets cannot be read as a response (`rrcache_fault`). */
@@ -531,27 +532,27 @@ struct rrcache_question {
 };
 
 /* The entry of a key. All fields are 0 if nothing is stored, and also in a reply of kind
-   RRCACHE_MISS or RRCACHE_FAILED. In the history of the shelf, an auditor uses `number` to find the
-   event that stored the entry. Two entries of one shelf never have the same `number`, but entries
-   of two shelves may. So if a caller keeps its own data about entries, it looks these data up by
-   the shelf and `number`, or by the name and `number`. The name can replace the shelf, because all
-   entries of a name are in one shelf. */
+   RRCACHE_MISS or RRCACHE_FAILED. An auditor can look up `number` in the history of the shelf to
+   find the event that stored the entry. Two entries of one shelf never have the same `number`, but
+   entries of two shelves may. So if a caller keeps its own data about entries, it looks these data
+   up by the shelf and `number`, or by the name and `number`. The name can replace the shelf,
+   because all entries of a name are in one shelf. */
 struct rrcache_entry {
     uint32_t kind;   /* enum rrcache_kind, or 0 if nothing is stored */
     uint32_t trust;  /* enum rrcache_trust; 0 for a failure */
-    uint32_t ttl;    /* the TTL that was stored: at most the cap for data from a message, and
-                        otherwise the TTL that was offered. To prefetch, a resolver renews an entry
-                        if a client asks for it shortly before `ttl` seconds have passed since
-                        `moment` */
+    uint32_t ttl;    /* the TTL that was stored: for data from a message, it is at most the cap; for
+                        other data, it is the TTL that was offered. To prefetch, a resolver renews
+                        an entry if a client asks for it shortly before `ttl` seconds have passed
+                        since `moment` */
     uint64_t moment; /* the timestamp of the offer that was stored */
     uint64_t number; /* the number of the event that stored the entry; no other entry of the shelf
                         has this number */
     uint64_t age;    /* not a time, but the number of uses of keys since the last use of this key.
                         The number of other keys used since then is at most `age`. A key is used
                         when an entry is stored under it, and when its entry answers an ask. In a
-                        reply, `age` is the value that it had before the call. An ask then moves the
-                        entry to the front of the LRU order, but a peek does not. If the entry is
-                        already at the front (`age` 0), an ask does not count as a use */
+                        reply, `age` has the value from before the call. An ask then moves the entry
+                        to the front of the LRU order, but a peek does not. If the entry is already
+                        at the front (`age` 0), an ask does not count as a use */
 };
 
 /* A reply. The first `owner_size` octets of the buffer are the owner in wire form, in the spelling
@@ -600,7 +601,7 @@ struct rrcache_counts {
                            offer is an event, and the call does not fail */
 };
 
-/* The limits on how long data of a response may be cached, in seconds. */
+/* The limits, in seconds, on how long data of a response may be cached. */
 struct rrcache_limits {
     uint32_t cap;          /* the maximum TTL: 1 to 604,800 (RFC 8767 section 4) */
     uint32_t negative_cap; /* the maximum TTL of a negative answer: 1 to 604,800 (RFC 2308 section
@@ -711,10 +712,10 @@ struct rrcache_response {
     size_t zone_size;
     uint64_t moment;
     struct rrcache_limits limits;
-    bool lowest_ttl;    /* for a response with AA clear: if the records of an RRset have different
-                           TTLs, whether to offer the RRset with the lowest of these TTLs. Other
-                           resolvers store such an RRset with its lowest TTL. If this field is not
-                           set, such an RRset is left out (RFC 2181 section 5.2) */
+    bool lowest_ttl;    /* for a response with AA clear: whether an RRset whose records have
+                           different TTLs is offered with the lowest of these TTLs. Other resolvers
+                           store such an RRset with its lowest TTL. If this field is not set, such
+                           an RRset is left out (RFC 2181 section 5.2) */
     bool clears_denied; /* whether an authoritative NXDOMAIN clears the data of the denied name for
                            the types A, AAAA and CNAME and for the type of the question. If this
                            field is not set, data that were stored before the NXDOMAIN may answer
@@ -793,13 +794,13 @@ struct rrcache_failure {
     uint64_t line;
 };
 
-/* A callback that receives the text of chapters, piece by piece. The callback has to process all
-   octets that it receives, and returns 0 to continue or nonzero to stop. `state` is the pointer
-   that the caller passed together with the callback. */
+/* A callback that receives the text of chapters, piece by piece. The callback must process all
+   octets that it receives, and return 0 to continue or nonzero to stop. `state` is the pointer that
+   the caller passed together with the callback. */
 typedef int (*rrcache_sink)(void *state, const void *octets, size_t size);
 
-/* The numbers of octets that `rrcache_sizes` adds up. RRCACHE_ENTRY_OCTETS is for a key, with its
-   places in the LRU order, the map of keys and the expiry queue. RRCACHE_VALUE_OCTETS is for a
+/* The numbers of octets that `rrcache_sizes` adds up. RRCACHE_ENTRY_OCTETS is for a key, including
+   its places in the LRU order, the map of keys and the expiry queue. RRCACHE_VALUE_OCTETS is for a
    name, the rdata of a record, or a list of several records. RRCACHE_VALUE_OCTETS includes room for
    RRCACHE_INLINE_OCTETS octets of the name or rdata. Longer names, longer rdata, and lists occupy a
    separate block of memory, for which RRCACHE_BLOCK_OCTETS is added. RRCACHE_SHARED_OCTETS is for
@@ -947,7 +948,7 @@ static inline uint32_t rrcache_version(void)
     return rrc_version();
 }
 
-/* Returns a text that describes a status, for example for a log. */
+/* Returns a description of a status, for example for a log. */
 static inline const char *rrcache_status_text(enum rrcache_status status)
 {
     switch (status) {
@@ -1095,7 +1096,7 @@ static inline enum rrcache_status rrcache_make_name(struct rrcache_name *name,
 }
 
 /* Starts to record the history of the shelf. The open chapter ends unrecorded, and the next chapter
-   begins with the entries of the shelf. The call uses as much memory and time as closing a chapter
+   begins with the entries of the shelf. The call takes as much memory and time as closing a chapter
    in which every key was used. Replies do not change. If the shelf already records, the call does
    nothing. Returns RRCACHE_HISTORY_FULL if the open chapter has the number 2^62. If the call fails,
    the shelf is unchanged. Needs the write lock. */
@@ -1186,8 +1187,8 @@ static inline enum rrcache_status rrcache_can_compose(const struct rrcache_query
     return overlap ? RRCACHE_OVERLAP : RRCACHE_DONE;
 }
 
-/* Checks whether a message can have the contents of a parsed response, and returns the first error
-   that applies. */
+/* Checks whether a parsed response can be written as a message, and returns the first error that
+   applies. */
 static inline enum rrcache_status rrcache_can_say(const struct rrcache_query *query,
                                                   const struct rrcache_parsed_response *parsed)
 {
@@ -1393,14 +1394,14 @@ static inline enum rrcache_status rrcache_can_read(const struct rrcache_response
 
 /* Reads a response to a query that the resolver sent to a server of `response->zone`. `offers` must
    be a handle that holds no offers. After the call, the handle holds the offers of the response
-   that are relevant to the query. The call writes to `concerned` which parts these offers are for:
-   bit 0 is set if there is an offer for part 0, bit 1 if there is an offer for part 1, and so on.
-   The caller can then make the offers to shelves with `rrcache_offer_read` or `rrcache_offer_one`,
-   get the contents of each offer with `rrcache_tell_offer`, and get the kind of the response with
-   `rrcache_tell_response`. If a response has no offers, for example because TC is set, `concerned`
-   is 0. When the offers are no longer needed, always call `rrcache_free_offers`, even if the
-   response had no offers. `rrcache_read_response` takes no shelf, needs no lock, and writes no
-   event.
+   that are relevant to the query. In `concerned`, the call reports which parts these offers are
+   for: bit 0 is set if there is an offer for part 0, bit 1 if there is an offer for part 1, and so
+   on. The caller can then make the offers to shelves with `rrcache_offer_read` or
+   `rrcache_offer_one`, get the contents of each offer with `rrcache_tell_offer`, and get the kind
+   of the response with `rrcache_tell_response`. If a response has no offers, for example because TC
+   is set, `concerned` is 0. When the offers are no longer needed, always call
+   `rrcache_free_offers`, even if the response had no offers. `rrcache_read_response` takes no
+   shelf, needs no lock, and writes no event.
 
    Returns RRCACHE_HAS_OFFERS if the handle already holds offers, even if one of the errors below
    also applies. The handle then keeps its offers. Returns RRCACHE_BAD_RULES or RRCACHE_BAD_SEED if
@@ -1444,17 +1445,17 @@ static inline enum rrcache_status rrcache_can_read(const struct rrcache_response
      is a referral (RFC 1034 section 4.3.2). In a referral, AA is clear and the owner of the NS
      RRset is below `zone`. So the servers of a zone cannot renew the delegation of this zone by
      adding NS records to the authority section of other responses. But a repeated referral renews
-     its NS RRset. To make a delegation end with the TTL of its first referral, the caller peeks for
-     the NS RRset of each referral before it makes the offers of that referral. If an unexpired NS
-     RRset with the same data is cached, the caller does not make the offers for the part to which
-     the owner of this RRset belongs.
+     its NS RRset. To make a delegation end when the TTL of its first referral runs out, the caller
+     peeks for the NS RRset of each referral before it makes the offers of that referral. If an
+     unexpired NS RRset with the same data is cached, the caller does not make the offers for the
+     part to which the owner of this RRset belongs.
    - An RRset with more than 16,384 octets of rdata.
    - In class IN, an RRset of type A with rdata that are not 4 octets long, or an RRset of type AAAA
      with rdata that are not 16 octets long.
 
    So a server that is queried for one name can replace the cached data of another name in only
-   three cases. First, CNAME records of its response lead from the name of the question to the other
-   name. Second, NS, MX or SRV records of its response have the other name as a host. Third, the
+   three cases. First, CNAME records in its response lead from the name of the question to the other
+   name. Second, the other name is a host in NS, MX or SRV records of its response. Third, the
    response has NS, SOA, DS or DNAME records of the other name, and the other name is above the name
    of the question or above a name to which CNAME records lead from that name. For NS and DS
    records, the restrictions above apply too. */
@@ -1515,15 +1516,15 @@ rrcache_read_message_unchecked(struct rrcache_offers *offers,
         concerned);
 }
 
-/* Offers all data that a handle holds for one part to the shelf of this part, with the timestamp of
+/* Offers to the shelf of one part all data that a handle holds for this part, with the timestamp of
    the response. The part is `share->part`, which is counted from 0, and must be below the number of
    parts for which the message was read. The handle keeps the offers, so the caller may make the
-   offers for a part again. The shelf keeps the data that it stored even after the offers of the
-   handle are freed. The call copies no names and no data. It writes to `counts` how many of the
-   offers had each outcome. If an offer fails, `counts` covers only the offers before it. Returns
+   offers for a part again. The shelf keeps its stored data even after the offers of the handle are
+   freed. The call copies no names and no data. In `counts`, it reports how many of the offers had
+   each outcome. If an offer fails, `counts` covers only the offers before it. Returns
    RRCACHE_BAD_RULES if there is no such part. Returns RRCACHE_OTHER_SEED if the message was read
-   with a seed that is not the seed of the shelf, because no ask would then find the data. Needs the
-   write lock of the shelf. */
+   with a seed that is not the seed of the shelf, because asks would not find the data in this
+   shelf. Needs the write lock of the shelf. */
 static inline enum rrcache_status rrcache_offer_read(struct rrcache_shelf *shelf,
                                                      struct rrcache_offers *offers,
                                                      const struct rrcache_share *share,
@@ -1558,12 +1559,12 @@ static inline enum rrcache_status rrcache_tell_response(struct rrcache_offers *o
 }
 
 /* Writes one of the offers of a handle to `told`, `buffer` and `name`. Offers are numbered from 0,
-   in the order of the message. The call writes the offer in the form of a reply at the timestamp of
-   the response, with the whole TTL left. So the caller can answer a waiting client even with data
-   that no shelf stores: data with TTL 0, or data of lower rank than the cached data. The call
-   writes to `name` the name of the offer: the owner of an RRset, or the name of a negative answer
-   or a failure. This name is made under the seed with which the response was read, and its `part`
-   is the part of the offer.
+   in the order of the message. The call writes the offer in the form of a reply that is given at
+   the timestamp of the response, when the whole TTL is left. So the caller can answer a waiting
+   client even with data that no shelf stores: data with TTL 0, or data of lower rank than the
+   cached data. The call writes to `name` the name of the offer: the owner of an RRset, or the name
+   of a negative answer or a failure. This name is made under the seed with which the response was
+   read, and its `part` is the part of the offer.
 
    `told->rtype` is the type of the offer, or 0 for RRCACHE_NXDOMAIN. For RRCACHE_FAILED,
    `told->retry_from` is the timestamp at which the failure ends. `told->entry` contains the kind,
@@ -1591,8 +1592,8 @@ static inline enum rrcache_status rrcache_tell_offer(struct rrcache_offers *offe
                                                buffer_size == 0 ? &none : buffer, buffer_size);
 }
 
-/* Returns how many octets are used to hold a name of `size` octets, or rdata of `size` octets,
-   whether inline or in a separate block. */
+/* Returns how many octets are used to hold a name or rdata of `size` octets, either inline or in a
+   separate block. */
 static inline uint64_t rrcache_room(uint64_t size)
 {
     return RRCACHE_VALUE_OCTETS + (size <= RRCACHE_INLINE_OCTETS ? 0 : RRCACHE_BLOCK_OCTETS + size);
@@ -1642,9 +1643,9 @@ static inline enum rrcache_status rrcache_tell_octets(const struct rrcache_name 
 
 /* Makes one offer of a handle to `shelf`, and writes the outcome to `outcome`
    (`enum rrcache_outcome`). So a caller that makes its own decisions, such as a validator, can make
-   only some of the offers. `pick->index` is counted from 0. The shelf must be the shelf of the
-   offer's part, which is `part` of the name that `rrcache_tell_offer` writes. The call does not
-   check this condition. Returns RRCACHE_NO_OFFERS if there is no offer with this number, and
+   only some of the offers. `pick->index` is counted from 0. The shelf must be that of the offer's
+   part, which is the `part` of the name that `rrcache_tell_offer` writes. The call does not check
+   this condition. Returns RRCACHE_NO_OFFERS if there is no offer with this number, and
    RRCACHE_OTHER_SEED if the seed of the shelf is not the seed with which the message was read.
    Needs the write lock of the shelf. */
 static inline enum rrcache_status rrcache_offer_one(struct rrcache_shelf *shelf,
@@ -1663,8 +1664,8 @@ static inline enum rrcache_status rrcache_offer_one(struct rrcache_shelf *shelf,
 }
 
 /* Frees the offers of a handle. The handle then holds no offers. Shelves keep the data that they
-   stored. Returns RRCACHE_NO_OFFERS if no call has filled the handle, or if its offers were already
-   freed. Needs no lock of a shelf. */
+   stored. Returns RRCACHE_NO_OFFERS if no call has filled the handle, or if its offers have already
+   been freed. Does not need the lock of a shelf. */
 static inline enum rrcache_status rrcache_free_offers(struct rrcache_offers *offers)
 {
     if (offers == NULL)
@@ -1677,11 +1678,11 @@ static inline enum rrcache_status rrcache_free_offers(struct rrcache_offers *off
    shelves. If there are other shelves, call `rrcache_read_message_unchecked` instead, and then
    `rrcache_offer_read` for each shelf that the message concerns. `rrcache_offer_message_unchecked`
    does not compare the response with a query, and ignores `lowest_ttl` and `clears_denied`. Nothing
-   is offered from a response with TC set ("What is stored" above). The call writes to `counts` how
-   many of the offers had each outcome. If an offer fails, `counts` covers only the offers before
-   it. Returns RRCACHE_BAD_LIMITS if a limit is out of range, RRCACHE_BAD_NAME if the zone is not in
-   wire form, and RRCACHE_BAD_MESSAGE if the octets cannot be read as a response. Needs the write
-   lock. */
+   is offered from a response with TC set ("What is stored" above). In `counts`, the call reports
+   how many of the offers had each outcome. If an offer fails, `counts` covers only the offers
+   before it. Returns RRCACHE_BAD_LIMITS if a limit is out of range, RRCACHE_BAD_NAME if the zone is
+   not in wire form, and RRCACHE_BAD_MESSAGE if the octets cannot be read as a response. Needs the
+   write lock. */
 static inline enum rrcache_status
 rrcache_offer_message_unchecked(struct rrcache_shelf *shelf,
                                 const struct rrcache_response *response, uint64_t line,
@@ -1903,9 +1904,9 @@ static inline enum rrcache_status rrcache_peek(const struct rrcache_shelf *shelf
                                          buffer_size == 0 ? &none : buffer, buffer_size);
 }
 
-/* Looks up the data of the question's type, or the CNAME record of the name, as one event, like
-   `rrcache_ask`. `told->rtype` is 5 if the reply is the CNAME record, and otherwise the type of the
-   question. The errors are those of `rrcache_ask`. Needs the write lock.
+/* Looks up the data of the question's type or the CNAME record of the name. Like `rrcache_ask`, the
+   call is one event. `told->rtype` is 5 if the reply is the CNAME record, and otherwise the type of
+   the question. The errors are those of `rrcache_ask`. Needs the write lock.
 
    The reply is the CNAME record if two conditions hold. First, a question for type CNAME would get
    the record as a fresh answer or as an acceptable stale answer. Second, the record takes
@@ -1936,7 +1937,7 @@ static inline enum rrcache_status rrcache_peek(const struct rrcache_shelf *shelf
    RRCACHE_NO_STALE returns RRCACHE_FAILED, ask for each name of the chain with RRCACHE_STALE_NOW.
    If the shelf holds unexpired data of the type that are older than the failure, the peek returns
    these data instead of RRCACHE_FAILED. In this case, call `rrcache_tell_stored`: it returns the
-   failure, and the field `number` of the entries shows whether the failure was stored after the
+   failure too, and the `number` fields of the entries show whether the failure was stored after the
    data. */
 static inline enum rrcache_status rrcache_ask_alias(struct rrcache_shelf *shelf,
                                                     const struct rrcache_name *name,
@@ -2018,7 +2019,7 @@ rrcache_sweep(struct rrcache_shelf *shelf, const struct rrcache_sweep_at *sweep,
 /* Writes to `moment` a timestamp before which no key of the shelf is fully expired. A sweep at an
    earlier timestamp removes nothing, and even a sweep at this timestamp may remove nothing. If the
    shelf holds a key but has not been swept yet, the timestamp is the earliest at which any entry
-   stored so far is fully expired, even an entry that the shelf no longer holds. After a sweep,
+   stored so far is fully expired. Entries that the shelf no longer holds count too. After a sweep,
    until an offer is made or a chapter is closed, the timestamp is later than the timestamp of the
    sweep. So a loop that sweeps at this timestamp until the timestamp is later than the current time
    always ends. The timestamp is UINT64_MAX if and only if the shelf holds no key. The call writes
@@ -2038,13 +2039,13 @@ static inline enum rrcache_status rrcache_next_expiry(const struct rrcache_shelf
 /* Sweeps in steps, so that no call takes long. Each step is a sweep at the timestamp that
    `rrcache_next_expiry` would then return, and is one event. The call stops when that timestamp is
    later than `moment`, when at least `most` keys have been removed, or after `most` steps. All keys
-   that fully expire in the same second are removed in one step. A step may also remove no key. The
-   call writes to `swept` the number of keys that it removed. `swept->is_done` is 1 if no key is
-   left that is fully expired at `moment`, and 0 if such a key may be left.
+   that fully expire in the same second are removed in one step. There may also be steps that remove
+   no key. The call writes to `swept` the number of keys that it removed. `swept->is_done` is 1 if
+   no key is left that is fully expired at `moment`, and 0 if such a key may be left.
 
-   Returns RRCACHE_BAD_RULES if `most` is 0, and RRCACHE_MOMENT_TOO_LARGE before the first step if
-   `moment` is above 2^40. Keys that were removed before an error stay removed, and `swept` counts
-   them. Needs the write lock. */
+   Returns RRCACHE_BAD_RULES if `most` is 0. If `moment` is above 2^40, the call returns
+   RRCACHE_MOMENT_TOO_LARGE before the first step. Keys that were removed before an error stay
+   removed, and `swept` counts them. Needs the write lock. */
 static inline enum rrcache_status rrcache_sweep_some(struct rrcache_shelf *shelf,
                                                      const struct rrcache_sweep_at *sweep,
                                                      struct rrcache_swept *swept)
@@ -2073,8 +2074,8 @@ static inline enum rrcache_status rrcache_sweep_some(struct rrcache_shelf *shelf
 
    A trim does not limit all of the memory that a shelf uses. The first sweep of a shelf visits all
    its keys, and from then on the shelf keeps the times at which its keys expire.
-   RRCACHE_ENTRY_OCTETS includes room for one such time for each key, but the shelf may keep more
-   such times for a while. SECURITY.md reports how much memory trimmed shelves used in tests.
+   RRCACHE_ENTRY_OCTETS includes room for one such time per key, but the shelf may keep more such
+   times for a while. SECURITY.md reports how much memory trimmed shelves used in tests.
 
    Returns RRCACHE_BAD_RULES if `limit` or `most` is 0, and RRCACHE_MOMENT_TOO_LARGE if the
    timestamp is above 2^40. In both cases, the call does nothing. The call may return RRCACHE_MEMORY
@@ -2122,9 +2123,9 @@ static inline enum rrcache_status rrcache_can_take(const struct rrcache_shelf *s
 
 /* Moves the closed chapters of the shelf, the oldest first, into a handle that holds no chapters,
    and writes the number of these chapters to `count`. `count` is 0 while the shelf does not record.
-   Replies do not change. The call allocates one small block of memory, and the time of the call
-   does not grow with the number of events. Calls on the chapters then need no lock of the shelf.
-   Free the chapters with `rrcache_free_chapters`, even if `count` is 0. Returns
+   Replies do not change. The call allocates one small block of memory, and the time that it takes
+   does not grow with the number of events. Calls on the chapters then do not need the lock of the
+   shelf. Free the chapters with `rrcache_free_chapters`, even if `count` is 0. Returns
    RRCACHE_HAS_CHAPTERS if the handle already holds chapters. Needs the write lock. */
 static inline enum rrcache_status rrcache_take_chapters(struct rrcache_shelf *shelf,
                                                         struct rrcache_chapters *chapters,
@@ -2148,7 +2149,7 @@ static inline enum rrcache_status rrcache_take_chapters(struct rrcache_shelf *sh
    events. The lines of this chapter list all entries of the shelf, so a caller can save the
    contents of the shelf in this way. No call makes a shelf from such a chapter, but a caller can
    offer the entries to an empty shelf, in the order of their event numbers, each with the
-   timestamp, rank and TTL in its line. */
+   timestamp, rank and TTL from its line. */
 static inline enum rrcache_status rrcache_stop_recording(struct rrcache_shelf *shelf,
                                                          struct rrcache_chapters *chapters,
                                                          uint64_t *count)
@@ -2159,16 +2160,16 @@ static inline enum rrcache_status rrcache_stop_recording(struct rrcache_shelf *s
     return (enum rrcache_status)rrc_stop_recording(shelf, chapters, count);
 }
 
-/* Writes a line of a chapter to the front of the buffer, starting at the octet `place->from` of the
-   line. If the rest of the line does not fit, the call writes as much of it as fits. All fields of
-   `place` are counted from 0. The call writes to `told` the number of octets of the line, including
-   its LF, and the number of octets that it wrote to the buffer. The latter number is 0 if `from` is
-   at or after the end of the line. The text of a chapter has a first line with the number of the
-   chapter and the rules of the shelf, a line for each key that was cached when the chapter began,
-   and a line for each event. The lines have the same form as in an archive (docs/FORMATS.md).
-   Returns RRCACHE_NO_CHAPTERS if the handle holds no chapters, and RRCACHE_NO_LINE if there is no
-   such line or no such chapter. The call allocates memory for the whole line, and frees this memory
-   before it returns. Needs no lock. */
+/* Writes a line of a chapter, starting at the octet `place->from` of the line, to the front of the
+   buffer. If the rest of the line does not fit, the call writes as much of it as fits. All fields
+   of `place` are counted from 0. The call writes to `told` the number of octets of the line,
+   including its LF, and the number of octets that it wrote to the buffer. The latter number is 0 if
+   `from` is at or after the end of the line. The text of a chapter has a first line with the number
+   of the chapter and the rules of the shelf, a line for each key that was cached when the chapter
+   began, and a line for each event. The lines have the same form as in an archive
+   (docs/FORMATS.md). Returns RRCACHE_NO_CHAPTERS if the handle holds no chapters, and
+   RRCACHE_NO_LINE if there is no such line or no such chapter. The call allocates memory for the
+   whole line, and frees this memory before it returns. Needs no lock. */
 static inline enum rrcache_status rrcache_chapter_line(struct rrcache_chapters *chapters,
                                                        const struct rrcache_place *place,
                                                        uint8_t *buffer, size_t buffer_size,
@@ -2187,7 +2188,7 @@ static inline enum rrcache_status rrcache_chapter_line(struct rrcache_chapters *
 }
 
 /* Writes a line of a chapter, including its LF, to `sink`, starting at the octet `place->from` of
-   the line. All fields of `place` are counted from 0. Each call of the sink receives
+   the line. All fields of `place` are counted from 0. Each call to the sink receives
    RRCACHE_PIECE_OCTETS octets of the line, except the last call, which receives the rest. If the
    sink returns nonzero, `rrcache_write_line` writes nothing more and returns RRCACHE_SINK. The
    other errors are those of `rrcache_chapter_line`. Needs no lock. */
@@ -2236,8 +2237,8 @@ static inline enum rrcache_status rrcache_write_chapter(struct rrcache_chapters 
 }
 
 /* Frees the chapters of a handle, with all their events. The handle then holds no chapters. Returns
-   RRCACHE_NO_CHAPTERS if no call has filled the handle, or if its chapters were already freed.
-   Needs no lock of a shelf. */
+   RRCACHE_NO_CHAPTERS if no call has filled the handle, or if its chapters have already been freed.
+   Does not need the lock of a shelf. */
 static inline enum rrcache_status rrcache_free_chapters(struct rrcache_chapters *chapters)
 {
     if (chapters == NULL)
@@ -2252,17 +2253,18 @@ static inline enum rrcache_status rrcache_free_chapters(struct rrcache_chapters 
    of a name, a class and a type; for the NXDOMAIN of a name and a class; and for the resolution
    failure of a name, a class and a type. Needs only the read lock.
 
-   The octets are approximately the memory that the keys use. A key uses RRCACHE_ENTRY_OCTETS, plus
-   the octets for its name. An RRset uses RRCACHE_SHARED_OCTETS, plus the octets for the rdata of
-   each record. An RRset of several records also uses RRCACHE_VALUE_OCTETS and RRCACHE_BLOCK_OCTETS.
-   A negative answer uses RRCACHE_SHARED_OCTETS, plus the octets for the rdata of its SOA record.
-   RRsets and negative answers also use the octets for the owner of their records, unless the owner
-   is spelled like the name of the key. The rdata of a record use RRCACHE_VALUE_OCTETS. Rdata of
-   more than RRCACHE_INLINE_OCTETS octets also use RRCACHE_BLOCK_OCTETS and their own size. A name
-   uses RRCACHE_SHARED_OCTETS more than rdata of the same size.
+   The number of octets is approximately the memory that the keys use. A key uses
+   RRCACHE_ENTRY_OCTETS, plus the octets for its name. An RRset uses RRCACHE_SHARED_OCTETS, plus the
+   octets for the rdata of each record. An RRset of several records also uses RRCACHE_VALUE_OCTETS
+   and RRCACHE_BLOCK_OCTETS. A negative answer uses RRCACHE_SHARED_OCTETS, plus the octets for the
+   rdata of its SOA record. RRsets and negative answers also use the octets for the owner of their
+   records, unless the owner is spelled like the name of the key. The rdata of a record use
+   RRCACHE_VALUE_OCTETS. Rdata of more than RRCACHE_INLINE_OCTETS octets also use
+   RRCACHE_BLOCK_OCTETS plus their own size. A name uses RRCACHE_SHARED_OCTETS more than rdata of
+   the same size.
 
-   The shelf updates its counts of keys and octets whenever keys change, so the time of the call
-   does not grow with the number of keys. The number of octets does not include the events and
+   The shelf updates its counts of keys and octets whenever keys change, so the time that this call
+   takes does not grow with the number of keys. The number of octets does not include the events and
    chapters, which keep even the data of evicted, replaced or swept keys. Nor does it include the
    names and expiry times of evicted keys: a shelf that has been swept keeps them until these keys
    would have expired. If the shelf holds n keys, it keeps these names and times for at most 2n + 64
