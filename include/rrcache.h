@@ -62,7 +62,7 @@
      `octets`, plus 4 octets for each key that `keys` allows. SECURITY.md has the measurements
      behind the factor of two and a half, and says what was not measured.
    - In addition, `rrcache_open` allocates the places, the memos, and a filter of the names that may
-     be aliases. All memos together use at most 1/16 of `octets`, and at most about 235 KiB times
+     be aliases. All memos together use at most 1/16 of `octets`, and at most about 460 KiB times
      `readers`. The filter of aliases uses at most about 1/80 of `octets`, and at most 128 KiB for
      each shelf. A second filter, of the names that may have an NXDOMAIN or a failure, uses 2 to 4
      octets for each key that `keys` allows, regardless of `octets`: 8 MiB with the default number

@@ -4,7 +4,7 @@
 
 /* The maximum number of memos of a reader. The memos of all readers take at most the cache's octets
    divided by SHARE_OF_OCTETS. */
-enum { MOST_MEMOS = 512, SHARE_OF_OCTETS = 16 };
+enum { MOST_MEMOS = 1024, SHARE_OF_OCTETS = 16 };
 
 /* ---- Where they are. */
 
