@@ -87,8 +87,8 @@
      returns an error. For the functions of rrcache.h, a seed or a limit of 0 means the default.
    - If a call fails, the history of the shelf and the replies that the shelf gives are unchanged.
      If the shelf records, the failed call may have closed a full chapter, but closing a chapter
-     changes neither the history nor the replies. Five functions are exceptions, because they may
-     have done part of their work when they fail: `rrcache_offer_read`,
+     changes neither the history nor the replies. Five functions may change the history and the
+     replies even if they fail, because they may have done part of their work: `rrcache_offer_read`,
      `rrcache_offer_message_unchecked`, `rrcache_offer_part_unchecked`, `rrcache_sweep_some` and
      `rrcache_trim`. These functions perform several offers, sweeps or evictions, one after another.
      If one of these steps fails, the earlier steps are not undone. The output `counts` then reports
@@ -139,12 +139,13 @@
      message is offered (RFC 2181 section 9). If such a message can be read, the call that reads it
      returns RRCACHE_DONE, all fields of `counts` are 0, no event is written, and
      `rrcache_tell_response` reports that TC is set. If the message ends inside a record, the call
-     returns RRCACHE_BAD_MESSAGE. In either case, the caller must send the query again over TCP. A
-     message that ends inside a record but has TC clear causes the same error. So the caller must
-     check TC before it treats RRCACHE_BAD_MESSAGE as a failure of the server. Over TCP, a length of
-     two octets precedes each message: do not pass these two octets to the library.
-   - Likewise, nothing from a message is offered if its opcode is not QUERY, if the class of its
-     question is not kept, or if the name of its question is out of bailiwick.
+     returns RRCACHE_BAD_MESSAGE. Whether or not the truncated message can be read, the caller must
+     send the query again over TCP. A message that ends inside a record but has TC clear also causes
+     RRCACHE_BAD_MESSAGE. So the caller must check TC before it treats RRCACHE_BAD_MESSAGE as a
+     failure of the server. Over TCP, a length of two octets precedes each message: do not pass
+     these two octets to the library.
+   - Nothing from a message is offered if its opcode is not QUERY, if the class of its question is
+     not kept, or if the name of its question is out of bailiwick.
    - The kept classes are IN, CH and HS (RFC 1035 section 3.2.4). docs/RULES.md lists the kept
      types. Each class of a name has its own keys. A record of a message is ignored unless its class
      is the class of the question. Data of type A in class CH are not kept, because these rdata
@@ -164,12 +165,11 @@
    - If nothing is stored from a message that answers its question, a failure that is cached for the
      question is still returned as RRCACHE_FAILED until the failure expires. To end the failure
      earlier, call `rrcache_offer_failure` with `ttl` 0.
-   - Likewise, a message from which nothing is stored does not change a cached RRset, unless an
-     offer of the message has TTL 0 and clears the RRset. The unchanged RRset may still be returned,
-     even as a stale answer. But under RFC 8767 section 4, an authoritative response (AA set) with
-     RCODE NOERROR or NXDOMAIN counts as a refresh, and the old RRset should no longer be returned.
-     So after such a response, the resolver calls `rrcache_offer_set` with `ttl` 0 to clear the
-     RRset.
+   - A message from which nothing is stored does not change a cached RRset, unless an offer of the
+     message has TTL 0 and clears the RRset. The unchanged RRset may still be returned, even as a
+     stale answer. But under RFC 8767 section 4, an authoritative response (AA set) with RCODE
+     NOERROR or NXDOMAIN counts as a refresh, and the old RRset should no longer be returned. So
+     after such a response, the resolver calls `rrcache_offer_set` with `ttl` 0 to clear the RRset.
    - If the RCODE of a response is neither NOERROR nor NXDOMAIN, a failure of its question is
      offered, even if the RCODE is FORMERR, NOTIMP or REFUSED. If no cached data may answer the
      question, the reply is then RRCACHE_FAILED until the failure expires or a later entry for the
@@ -182,11 +182,12 @@
    - Timestamps (`moment`) are numbers of seconds, at most 2^40. The caller supplies them, because
      the library reads no clock. The timestamp of a call may be lower than that of a previous call.
    - The age of an entry is the timestamp of the call minus the timestamp of the entry. If the
-     timestamp of the call is lower, the age is 0, and `left` is the whole TTL of the entry, never
-     more. The field `age` of `struct rrcache_entry` is not this age, but a number of uses.
+     timestamp of the call is lower than that of the entry, the age is 0, and `left` is the whole
+     TTL of the entry. The field `age` of `struct rrcache_entry` is not this age, but a number of
+     uses.
    - If the caller's clock is set back by some seconds, all cached data live that many seconds
-     longer. Data that had expired may answer again, and may prevent data of lower rank from being
-     stored, unless they have already been replaced, cleared, evicted or swept. If the clock is set
+     longer. Data that had expired, but have not yet been replaced, cleared, evicted or swept, may
+     answer again, and may prevent data of lower rank from being stored. If the clock is set
      forward, data expire early, and a sweep then removes entries that are fully expired according
      to that clock. Use a clock that cannot be set, and that keeps running while the machine is
      suspended. On Linux, CLOCK_BOOTTIME is such a clock, but CLOCK_MONOTONIC stops during
@@ -254,13 +255,14 @@
      an error for which the call has not yet checked also applies.
    - A call that offers a message checks for RRCACHE_HISTORY_FULL and RRCACHE_MOMENT_TOO_LARGE only
      when it makes an offer. If the message has no offers, the call returns RRCACHE_DONE, regardless
-     of the timestamp and even if numbers are used up.
+     of the timestamp and even if event numbers or chapter numbers are used up.
    - Every function that returns a status returns RRCACHE_NULL and RRCACHE_OVERLAP as described at
      the end of this comment. A function that uses the contents of a handle returns
      RRCACHE_NO_SHELF, RRCACHE_NO_OFFERS or RRCACHE_NO_CHAPTERS if the handle holds nothing. Calls
      that allocate memory return RRCACHE_MEMORY if malloc fails. Calls that write an event return
-     RRCACHE_HISTORY_FULL if numbers are used up, and RRCACHE_MOMENT_TOO_LARGE if the timestamp is
-     above 2^40. The comments on most functions do not repeat these conditions.
+     RRCACHE_HISTORY_FULL if event numbers or chapter numbers are used up, and
+     RRCACHE_MOMENT_TOO_LARGE if the timestamp is above 2^40. The comments on most functions do not
+     repeat these conditions.
 
    Names are in wire form (RFC 1035 section 3.1): complete, without compression pointers, and at
    most 255 octets long, including the zero octet at the end. Letters may be in upper or lower case.
@@ -274,10 +276,10 @@
    resolver calls, three do not call an exported function: `rrcache_compose_response`,
    `rrcache_tell_octets` and `rrcache_status_text`. An inline function returns RRCACHE_NULL if a
    required pointer is null. It returns RRCACHE_OVERLAP if anything that it writes, including the
-   handle, overlaps another output or an input. There is one exception: a struct that contains
-   pointers, such as `struct rrcache_response`, may overlap an output, and so may a struct that is
-   passed together with such a struct. The function reads these structs before it writes anything.
-   Inputs may overlap each other. The library cannot check whether a handle or a name was
+   handle, overlaps another output or an input. There is one exception: an output may overlap an
+   input struct that contains pointers, such as `struct rrcache_response`, and any input struct that
+   is passed in the same call as such a struct. The function reads these structs before it writes
+   anything. Inputs may overlap each other. The library cannot check whether a handle or a name was
    initialized to zeros, whether two threads use one handle at the same time, or whether a buffer is
    as large as the size that is passed with the buffer. */
 #ifndef RRCACHE_SHELF_H
@@ -397,8 +399,8 @@ enum rrcache_mode { RRCACHE_NO_STALE = 1, RRCACHE_STALE_IF_FAILED = 2, RRCACHE_S
 enum rrcache_trust {
     RRCACHE_ADDITIONAL = 1,               /* data of the additional section, or of the authority
                                              section of a non-authoritative response */
-    RRCACHE_NON_AUTHORITATIVE_ANSWER = 2, /* data of the answer section to which
-                                             RRCACHE_AUTHORITATIVE_ANSWER does not apply */
+    RRCACHE_NON_AUTHORITATIVE_ANSWER = 2, /* data of the answer section that do not have the rank
+                                             RRCACHE_AUTHORITATIVE_ANSWER */
     RRCACHE_AUTHORITY = 3,                /* data of the authority section of an authoritative
                                              response */
     RRCACHE_AUTHORITATIVE_ANSWER = 4      /* data of the answer section of an authoritative
@@ -446,12 +448,13 @@ enum rrcache_response_kind {
                                       chain is a loop or has more than 16 records, or the RCODE is
                                       NXDOMAIN although the answer section has a record of the name.
                                       A response also has this kind if it has no data, does not deny
-                                      that there are data, and is not a referral; perhaps the server
-                                      does not serve the zone. A response with AA set is not a
-                                      referral, even if it has NS records below the zone. Data of a
-                                      type that is not kept are skipped. So for a question of any
-                                      such type other than ANY, a NOERROR response has this kind
-                                      unless it is a referral or an alias */
+                                      that there are data, and is not a referral. A server that does
+                                      not serve the zone may send such a response. A response with
+                                      AA set is not a referral, even if it has NS records whose
+                                      owner is below the zone. Data of a type that is not kept are
+                                      skipped. So for a question of any such type other than ANY, a
+                                      NOERROR response has this kind unless it is a referral or an
+                                      alias */
 };
 
 /* The reason why octets cannot be read as a response (`rrcache_fault`). */
@@ -597,8 +600,8 @@ struct rrcache_stored {
 struct rrcache_counts {
     uint64_t kept;
     uint64_t cleared;
-    uint64_t outranked; /* not stored, because the key holds unexpired data of higher rank. Such an
-                           offer is an event, and the call does not fail */
+    uint64_t outranked; /* not stored, because the key holds unexpired data of higher rank. An
+                           outranked offer is an event, and the call does not fail */
 };
 
 /* The limits, in seconds, on how long data of a response may be cached. */
@@ -681,7 +684,7 @@ struct rrcache_line {
 };
 
 /* ---- Arguments of functions. The field after each pointer to octets is the number of these
-   octets. Use designated initializers for these structs: the fields that you leave out are then 0.
+   octets. Use designated initializers for the structs below, so that fields left out are 0.
 
    All structs of this header and of rrcache.h are part of the ABI of the library, because exported
    functions read or write them. These structs keep their size and their fields in all versions with
@@ -802,7 +805,7 @@ typedef int (*rrcache_sink)(void *state, const void *octets, size_t size);
 /* The numbers of octets that `rrcache_sizes` adds up. RRCACHE_ENTRY_OCTETS is for a key, including
    its places in the LRU order, the map of keys and the expiry queue. RRCACHE_VALUE_OCTETS is for a
    name, the rdata of a record, or a list of several records. RRCACHE_VALUE_OCTETS includes room for
-   RRCACHE_INLINE_OCTETS octets of the name or rdata. Longer names, longer rdata, and lists occupy a
+   RRCACHE_INLINE_OCTETS octets of the name or rdata. A longer name, longer rdata, or a list needs a
    separate block of memory, for which RRCACHE_BLOCK_OCTETS is added. RRCACHE_SHARED_OCTETS is for
    the reference count of a name or of the data of a key, and for the block of memory that contains
    this count. */
@@ -1077,9 +1080,9 @@ static inline enum rrcache_status rrcache_free(struct rrcache_shelf *shelf)
     return (enum rrcache_status)rrc_free(shelf);
 }
 
-/* Folds and hashes a name in wire form, and determines the number of the name's part, counted from
-   0. The call writes the result to `name`, or leaves `name` unmodified if the call fails. The
-   caller passes the result to the calls that look up a name in a shelf. `rrcache_make_name` never
+/* Folds and hashes a name in wire form, and determines the number of its part, counted from 0. The
+   call writes the result to `name`, or leaves `name` unmodified if the call fails. The caller
+   passes the result to the calls that look up a name in a shelf. `rrcache_make_name` never
    allocates, and needs no lock. Returns RRCACHE_BAD_RULES if `parts->count` is not in the range 1
    to 64, RRCACHE_BAD_SEED if the seed is all zeros, and RRCACHE_BAD_NAME if `octets` are not the
    wire form of a name. */
@@ -1408,25 +1411,26 @@ static inline enum rrcache_status rrcache_can_read(const struct rrcache_response
    `parts` is not valid, RRCACHE_BAD_LIMITS if a limit is out of range, and RRCACHE_BAD_NAME if the
    zone or the name of the query is not in wire form.
 
-   Before the call reads the rest of the message, it compares the identifier and the question with
-   those of the query (RFC 5452 section 9.1). If either differs, the call returns
-   RRCACHE_OTHER_QUERY and does not read further, so it takes almost no time to reject such a
-   message. Anyone may have sent such a message, so the caller drops it and keeps waiting for the
-   response. The call also returns RRCACHE_OTHER_QUERY if the message is too short for a header, or
-   if QR is clear. If `with_case` of the query is set, a name with a letter in another case counts
-   as different. A name that is written with a compression pointer always counts as different. Two
-   errors count as failures of the server (RFC 8767 section 5). RRCACHE_NO_QUESTION means that the
-   response is a header without a question. RRCACHE_BAD_MESSAGE means that the message answers the
-   query but cannot be read. If TC is set, RRCACHE_BAD_MESSAGE is not a failure: send the query
-   again over TCP. A server that returns FORMERR without a question may not support EDNS (RFC 6891
+   The call reads the header and the question of the message first, and compares the identifier and
+   the question with those of the query (RFC 5452 section 9.1). If either differs, the call returns
+   RRCACHE_OTHER_QUERY and does not read the rest of the message, so it takes almost no time to
+   reject such a message. Anyone may have sent such a message, so the caller drops it and keeps
+   waiting for the response. The call also returns RRCACHE_OTHER_QUERY if the message is too short
+   for a header, or if QR is clear. If `with_case` of the query is set, a name with a letter in
+   another case counts as different. A name that is written with a compression pointer always counts
+   as different. Two errors count as failures of the server (RFC 8767 section 5):
+   RRCACHE_NO_QUESTION, which means that the response is a header without a question, and
+   RRCACHE_BAD_MESSAGE, which means that the message answers the query but cannot be read. If TC is
+   set, RRCACHE_BAD_MESSAGE is not a failure: send the query again over TCP. If a server returns
+   FORMERR without a question, the reason may be that the server does not support EDNS (RFC 6891
    section 7).
 
    The following data are relevant:
    - In the answer section, an RRset is relevant if its owner is the name of the question, or one of
      at most 11 names to which CNAME records lead from that name. The RRset must also have the type
      of the question or type CNAME; for a question of type ANY, it may have any type. A DNAME RRset
-     whose owner is above one of these names is relevant too. For a question of type CNAME or ANY,
-     no CNAME record is followed.
+     is also relevant if its owner is above the name of the question or above one of the at most 11
+     other names. For a question of type CNAME or ANY, no CNAME record is followed.
    - In the authority section, for each of the types NS, SOA and DS, the first RRset whose owner is
      at or above the final name is relevant. The final name is the name at the end of the CNAME
      chain that begins at the name of the question. A chain of more than 16 CNAME records has no
@@ -1443,22 +1447,22 @@ static inline enum rrcache_status rrcache_can_read(const struct rrcache_response
      (RFC 4035 section 2.4).
    - An NS RRset of the authority section, unless the question asks for this RRset or the response
      is a referral (RFC 1034 section 4.3.2). In a referral, AA is clear and the owner of the NS
-     RRset is below `zone`. So the servers of a zone cannot renew the delegation of this zone by
-     adding NS records to the authority section of other responses. But a repeated referral renews
-     its NS RRset. To make a delegation end when the TTL of its first referral runs out, the caller
-     peeks for the NS RRset of each referral before it makes the offers of that referral. If an
-     unexpired NS RRset with the same data is cached, the caller does not make the offers for the
-     part to which the owner of this RRset belongs.
+     RRset is below `zone`. This restriction prevents the servers of a zone from renewing the
+     delegation of the zone with NS records that they add to the authority section of other
+     responses. But a repeated referral renews its NS RRset. To make a delegation end when the TTL
+     of its first referral runs out, the caller peeks for the NS RRset of each referral before it
+     makes the offers of that referral. If an unexpired NS RRset with the same data is cached, the
+     caller does not make the offers for the part to which the owner of this RRset belongs.
    - An RRset with more than 16,384 octets of rdata.
    - In class IN, an RRset of type A with rdata that are not 4 octets long, or an RRset of type AAAA
      with rdata that are not 16 octets long.
 
-   So a server that is queried for one name can replace the cached data of another name in only
-   three cases. First, CNAME records in its response lead from the name of the question to the other
-   name. Second, the other name is a host in NS, MX or SRV records of its response. Third, the
-   response has NS, SOA, DS or DNAME records of the other name, and the other name is above the name
-   of the question or above a name to which CNAME records lead from that name. For NS and DS
-   records, the restrictions above apply too. */
+   So a server that is queried for one name can replace the cached data of another name only in
+   three cases. First, CNAME records in the server's response lead from the name of the question to
+   the other name. Second, the other name is a host in NS, MX or SRV records of the response. Third,
+   the response has NS, SOA, DS or DNAME records of the other name, and the other name is above the
+   name of the question or above a name to which CNAME records lead from that name. For NS and DS
+   records, the restrictions in the list above also apply. */
 static inline enum rrcache_status rrcache_read_response(struct rrcache_offers *offers,
                                                         const struct rrcache_response *response,
                                                         const struct rrcache_query *query,
@@ -1522,9 +1526,9 @@ rrcache_read_message_unchecked(struct rrcache_offers *offers,
    offers for a part again. The shelf keeps its stored data even after the offers of the handle are
    freed. The call copies no names and no data. In `counts`, it reports how many of the offers had
    each outcome. If an offer fails, `counts` covers only the offers before it. Returns
-   RRCACHE_BAD_RULES if there is no such part. Returns RRCACHE_OTHER_SEED if the message was read
-   with a seed that is not the seed of the shelf, because asks would not find the data in this
-   shelf. Needs the write lock of the shelf. */
+   RRCACHE_BAD_RULES if there is no part with the number `share->part`. Returns RRCACHE_OTHER_SEED
+   if the message was read with a seed that is not the seed of the shelf, because asks would not
+   find the data in this shelf. Needs the write lock of the shelf. */
 static inline enum rrcache_status rrcache_offer_read(struct rrcache_shelf *shelf,
                                                      struct rrcache_offers *offers,
                                                      const struct rrcache_share *share,
@@ -1571,10 +1575,10 @@ static inline enum rrcache_status rrcache_tell_response(struct rrcache_offers *o
    rank, TTL and timestamp of the offer. The `number` and `age` of this entry are 0, because only a
    stored entry has them. All offers of a response have the class of its question.
 
-   Returns RRCACHE_NO_OFFERS if there is no offer with this number. Returns RRCACHE_SMALL if the
-   buffer is too small: the call then writes to `name` and `told`, but leaves the buffer unmodified.
-   For an offer that `rrcache_read_response` read, a buffer of 28,551 octets is always large enough.
-   The call never allocates, and needs no lock. */
+   Returns RRCACHE_NO_OFFERS if the handle has no offer with the number `index`. Returns
+   RRCACHE_SMALL if the buffer is too small: the call then writes to `name` and `told`, but leaves
+   the buffer unmodified. For an offer that `rrcache_read_response` read, a buffer of 28,551 octets
+   is always large enough. The call never allocates, and needs no lock. */
 static inline enum rrcache_status rrcache_tell_offer(struct rrcache_offers *offers, uint64_t index,
                                                      struct rrcache_name *name,
                                                      struct rrcache_told *told, uint8_t *buffer,
@@ -1641,13 +1645,13 @@ static inline enum rrcache_status rrcache_tell_octets(const struct rrcache_name 
     return RRCACHE_DONE;
 }
 
-/* Makes one offer of a handle to `shelf`, and writes the outcome to `outcome`
-   (`enum rrcache_outcome`). So a caller that makes its own decisions, such as a validator, can make
-   only some of the offers. `pick->index` is counted from 0. The shelf must be that of the offer's
-   part, which is the `part` of the name that `rrcache_tell_offer` writes. The call does not check
-   this condition. Returns RRCACHE_NO_OFFERS if there is no offer with this number, and
-   RRCACHE_OTHER_SEED if the seed of the shelf is not the seed with which the message was read.
-   Needs the write lock of the shelf. */
+/* Makes one offer of a handle to `shelf`, and writes the outcome (`enum rrcache_outcome`) to
+   `outcome`. With this call, a caller that decides for itself which data to store, such as a
+   validator, can make only some of the offers of a message. `pick->index` is counted from 0. The
+   shelf must be that of the offer's part, which is the `part` of the name that `rrcache_tell_offer`
+   writes. The call does not check this condition. Returns RRCACHE_NO_OFFERS if the handle has no
+   offer with the number `pick->index`, and RRCACHE_OTHER_SEED if the seed of the shelf is not the
+   seed with which the message was read. Needs the write lock of the shelf. */
 static inline enum rrcache_status rrcache_offer_one(struct rrcache_shelf *shelf,
                                                     struct rrcache_offers *offers,
                                                     const struct rrcache_offer_pick *pick,
@@ -1674,15 +1678,15 @@ static inline enum rrcache_status rrcache_free_offers(struct rrcache_offers *off
 }
 
 /* Offers to a shelf all data of a response that are in bailiwick: the RRsets of the response, and
-   its negative answer or failure. The call also offers the data of names that belong to other
-   shelves. If there are other shelves, call `rrcache_read_message_unchecked` instead, and then
-   `rrcache_offer_read` for each shelf that the message concerns. `rrcache_offer_message_unchecked`
-   does not compare the response with a query, and ignores `lowest_ttl` and `clears_denied`. Nothing
-   is offered from a response with TC set ("What is stored" above). In `counts`, the call reports
-   how many of the offers had each outcome. If an offer fails, `counts` covers only the offers
-   before it. Returns RRCACHE_BAD_LIMITS if a limit is out of range, RRCACHE_BAD_NAME if the zone is
-   not in wire form, and RRCACHE_BAD_MESSAGE if the octets cannot be read as a response. Needs the
-   write lock. */
+   its negative answer or failure. The call offers to this shelf even the data of names that belong
+   to other shelves. If there are other shelves, call `rrcache_read_message_unchecked` instead, and
+   then `rrcache_offer_read` for each shelf that the message concerns.
+   `rrcache_offer_message_unchecked` does not compare the response with a query, and ignores
+   `lowest_ttl` and `clears_denied`. Nothing is offered from a response with TC set ("What is
+   stored" above). In `counts`, the call reports how many of the offers had each outcome. If an
+   offer fails, `counts` covers only the offers before it. Returns RRCACHE_BAD_LIMITS if a limit is
+   out of range, RRCACHE_BAD_NAME if the zone is not in wire form, and RRCACHE_BAD_MESSAGE if the
+   octets cannot be read as a response. Needs the write lock. */
 static inline enum rrcache_status
 rrcache_offer_message_unchecked(struct rrcache_shelf *shelf,
                                 const struct rrcache_response *response, uint64_t line,
@@ -1920,11 +1924,11 @@ static inline enum rrcache_status rrcache_peek(const struct rrcache_shelf *shelf
 
    So the call chooses between the CNAME record and the data of the type in the same way as an ask
    chooses between an RRset and an NXDOMAIN. As a result, if a newer CNAME record may be returned,
-   the call returns that record rather than an expired address (RFC 8767 section 7). If either
-   condition does not hold, the call returns the reply for the type. For a question of type CNAME or
-   ANY, the call always returns the reply for the type (RFC 1034 section 4.3.2). The same applies to
-   a question of type NSEC or RRSIG, because a name with a CNAME record may have NSEC and RRSIG
-   records of its own (RFC 4035 section 2.5).
+   the call returns that record rather than an expired address (RFC 8767 section 7). If one of the
+   two conditions above does not hold, the call returns the reply for the type of the question. For
+   a question of type CNAME or ANY, the call always returns the reply for the type (RFC 1034 section
+   4.3.2). The same applies to a question of type NSEC or RRSIG, because a name with a CNAME record
+   may have NSEC and RRSIG records of its own (RFC 4035 section 2.5).
 
    If the reply is the CNAME record, the resolver then asks for the target of the record, under the
    lock of the target's shelf. The target is the name in the first rdata. Any further rdata are
@@ -2016,14 +2020,14 @@ rrcache_sweep(struct rrcache_shelf *shelf, const struct rrcache_sweep_at *sweep,
     return (enum rrcache_status)rrc_sweep(shelf, sweep, removed);
 }
 
-/* Writes to `moment` a timestamp before which no key of the shelf is fully expired. A sweep at an
-   earlier timestamp removes nothing, and even a sweep at this timestamp may remove nothing. If the
-   shelf holds a key but has not been swept yet, the timestamp is the earliest at which any entry
-   stored so far is fully expired. Entries that the shelf no longer holds count too. After a sweep,
-   until an offer is made or a chapter is closed, the timestamp is later than the timestamp of the
-   sweep. So a loop that sweeps at this timestamp until the timestamp is later than the current time
-   always ends. The timestamp is UINT64_MAX if and only if the shelf holds no key. The call writes
-   no event, and needs only the read lock. */
+/* Writes to `moment` a timestamp before which no key of the shelf is fully expired. A sweep at a
+   timestamp before `moment` removes nothing, and even a sweep at `moment` may remove nothing. If
+   the shelf holds a key but has not been swept yet, `moment` is the earliest timestamp at which any
+   entry stored so far is fully expired. Entries that the shelf no longer holds count too. After a
+   sweep, until an offer is made or a chapter is closed, `moment` is later than the timestamp of the
+   sweep. So a loop that calls this function and then sweeps at `moment`, until `moment` is later
+   than the current time, always ends. `moment` is UINT64_MAX if and only if the shelf holds no key.
+   The call writes no event, and needs only the read lock. */
 static inline enum rrcache_status rrcache_next_expiry(const struct rrcache_shelf *shelf,
                                                       uint64_t *moment)
 {
@@ -2074,14 +2078,14 @@ static inline enum rrcache_status rrcache_sweep_some(struct rrcache_shelf *shelf
 
    A trim does not limit all of the memory that a shelf uses. The first sweep of a shelf visits all
    its keys, and from then on the shelf keeps the times at which its keys expire.
-   RRCACHE_ENTRY_OCTETS includes room for one such time per key, but the shelf may keep more such
-   times for a while. SECURITY.md reports how much memory trimmed shelves used in tests.
+   RRCACHE_ENTRY_OCTETS includes room for one expiry time per key, but the shelf may keep more of
+   these times for a while. SECURITY.md reports how much memory trimmed shelves used in tests.
 
    Returns RRCACHE_BAD_RULES if `limit` or `most` is 0, and RRCACHE_MOMENT_TOO_LARGE if the
    timestamp is above 2^40. In both cases, the call does nothing. The call may return RRCACHE_MEMORY
    or RRCACHE_HISTORY_FULL after it has removed some keys: these keys stay removed, and `trimmed` is
-   unmodified. If the shelf does not record, a trim allocates memory only for a sweep at timestamp
-   0. */
+   unmodified. While the shelf does not record, a trim allocates memory only for a sweep at
+   timestamp 0. */
 static inline enum rrcache_status rrcache_trim(struct rrcache_shelf *shelf,
                                                const struct rrcache_trim_to *trim,
                                                struct rrcache_trimmed *trimmed)
@@ -2168,8 +2172,9 @@ static inline enum rrcache_status rrcache_stop_recording(struct rrcache_shelf *s
    of the chapter and the rules of the shelf, a line for each key that was cached when the chapter
    began, and a line for each event. The lines have the same form as in an archive
    (docs/FORMATS.md). Returns RRCACHE_NO_CHAPTERS if the handle holds no chapters, and
-   RRCACHE_NO_LINE if there is no such line or no such chapter. The call allocates memory for the
-   whole line, and frees this memory before it returns. Needs no lock. */
+   RRCACHE_NO_LINE if the handle has no chapter `place->chapter` or the chapter has no line
+   `place->line`. The call allocates memory for the whole line, and frees this memory before it
+   returns. Needs no lock. */
 static inline enum rrcache_status rrcache_chapter_line(struct rrcache_chapters *chapters,
                                                        const struct rrcache_place *place,
                                                        uint8_t *buffer, size_t buffer_size,
@@ -2216,9 +2221,9 @@ static inline enum rrcache_status rrcache_write_line(struct rrcache_chapters *ch
 
 /* Writes all lines of a chapter to `sink`, each as `rrcache_write_line` does. `chapter` is the
    position of the chapter in the handle, counted from 0. The text of all chapters of one recording,
-   in the order in which they were taken, is an archive of the history. The sink must not make a
-   call with the handle of these chapters. Returns RRCACHE_NO_LINE if there is no such chapter. The
-   other errors are those of `rrcache_write_line`. Needs no lock. */
+   in the order in which they were taken, is an archive of the history. The sink must not pass
+   `chapters` to a function of the library. Returns RRCACHE_NO_LINE if the handle has no chapter at
+   the position `chapter`. The other errors are those of `rrcache_write_line`. Needs no lock. */
 static inline enum rrcache_status rrcache_write_chapter(struct rrcache_chapters *chapters,
                                                         uint64_t chapter, rrcache_sink sink,
                                                         void *state)
@@ -2263,12 +2268,12 @@ static inline enum rrcache_status rrcache_free_chapters(struct rrcache_chapters 
    RRCACHE_BLOCK_OCTETS plus their own size. A name uses RRCACHE_SHARED_OCTETS more than rdata of
    the same size.
 
-   The shelf updates its counts of keys and octets whenever keys change, so the time that this call
-   takes does not grow with the number of keys. The number of octets does not include the events and
-   chapters, which keep even the data of evicted, replaced or swept keys. Nor does it include the
-   names and expiry times of evicted keys: a shelf that has been swept keeps them until these keys
-   would have expired. If the shelf holds n keys, it keeps these names and times for at most 2n + 64
-   evicted keys. */
+   The shelf updates its counts of keys and octets whenever keys change, so the time that
+   `rrcache_sizes` takes does not grow with the number of keys. The number of octets does not
+   include the memory of events and chapters, which keep data even after the data have been
+   replaced, evicted or swept. Nor does it include the names and expiry times of evicted keys: a
+   shelf that has been swept keeps them until these keys would have expired. If the shelf holds n
+   keys, it keeps these names and times for at most 2n + 64 evicted keys. */
 static inline enum rrcache_status rrcache_sizes(const struct rrcache_shelf *shelf,
                                                 struct rrcache_usage *sizes)
 {
