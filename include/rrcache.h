@@ -31,23 +31,23 @@
      holds locks of two shelves at the same time.
    - If a thread repeats a look-up in the same second, and the name is in lower case, the library
      may copy the answer from a memo, which is a saved copy of an earlier answer. The library does
-     so only if nothing in the shelf of the name has changed since it gave that answer. Only
-     negative answers and answers with a single RRset have memos. A look-up that is answered from a
-     memo takes no place. The result of this look-up and its effect on the counters are the same as
-     without a memo.
+     so only if nothing in the shelf of the name has changed since it gave that answer. The library
+     keeps memos only of negative answers and of answers with a single RRset. A look-up that is
+     answered from a memo takes no place. The result of this look-up and its effect on the counters
+     are the same as without a memo.
    - ThreadSanitizer cannot see the locks in the compiled library. To run a program under
      ThreadSanitizer, compile the files of lib/ with the same sanitizer, and link them before the
      shared library. The static library contains the same functions, so if you link it instead, the
      linker also needs `-Wl,--allow-multiple-definition`. ThreadSanitizer may still falsely report
-     races of `free`, because it does not see how shelves count the references to data. The line
+     races in `free`, because it does not see how shelves count the references to data. The line
      `race_top:free$` in a suppressions file prevents these reports.
-   - Eviction is LRU. But a look-up does not always move the entry that it finds to the front of the
-     LRU order, because a move changes the shelf. In a shelf that is at least three quarters full,
-     by octets or by keys, a look-up moves its entry if more than a quarter of the shelf's keys may
-     have been used since the last use of that entry. Otherwise a look-up moves its entry only in
-     two cases. First, if most of the recent look-ups had to move their entries, the next few
-     look-ups move theirs too. Second, with `exact_recency`, and while histories are being recorded,
-     every look-up moves its entry. docs/RULES.md says which LRU order a caller can rely on.
+   - Eviction is LRU. But a look-up that finds an entry does not always move this entry to the front
+     of the LRU order, because a move changes the shelf. In a shelf that is at least three quarters
+     full, by octets or by keys, a look-up moves its entry if more than a quarter of the shelf's
+     keys may have been used since the last use of that entry. Otherwise a look-up moves its entry
+     only in two cases. First, if most of the recent look-ups had to move their entries, the next
+     few look-ups move theirs too. Second, every look-up moves its entry if `exact_recency` is set
+     or histories are being recorded. docs/RULES.md says which LRU order a caller can rely on.
 
    Memory
    - An answer is a copy in the caller's buffer. The copy stays valid after the entries that it came
@@ -87,10 +87,10 @@
      suspended.
    - A program must either pass 0 in every call, or pass timestamps from its own clock in every
      call. That clock must never be set back. If the clock is set forward, all data suddenly become
-     older: see "Timestamps" in rrcache_shelf.h. If a program mixes the two clocks, data expire too
-     late or too early. A program that passes 0 may also pass seconds of CLOCK_BOOTTIME, for example
-     when it restores a dump, because 0 means the current time of the same clock. `retry_from` is a
-     timestamp of the clock that the program uses.
+     older: see "Timestamps" in rrcache_shelf.h. If a program passes 0 in some calls and timestamps
+     from its own clock in others, data expire too late or too early. A program that passes 0 may
+     also pass seconds of CLOCK_BOOTTIME, for example when it restores a dump, because 0 means the
+     current time of the same clock. `retry_from` is a timestamp of the clock that the program uses.
 
    Errors
    - The header rrcache_shelf.h describes the wire form of names, the ownership of memory, and each
@@ -111,10 +111,10 @@
      repeat these conditions.
    - After RRCACHE_HISTORY_FULL, the shelf whose event numbers are used up can no longer store
      anything. In this case, close the cache and open a new one. At 10^9 events a second in one
-     shelf, the numbers last for 146 years.
-   - If a field of `struct rrcache_config` is 0, its default applies. If a limit in the `struct
-     rrcache_response` of an `rrcache_store` call is 0, the limit of the cache applies. For the
-     functions of rrcache_shelf.h, a limit of 0 or a seed of zeros is an error.
+     shelf, the event numbers last for 146 years.
+   - If a field of `struct rrcache_config` is 0, its default applies. If a limit in the `response`
+     argument of `rrcache_store` is 0, the limit of the cache applies. For the functions of
+     rrcache_shelf.h, a limit of 0 or a seed of zeros is an error.
 
    ABI
    - The library reads or writes every struct of this header. So each of these structs keeps its
@@ -352,13 +352,13 @@ RRCACHE_API bool rrcache_next(const struct rrcache_answer *answer, struct rrcach
    The RRsets of a referral are stored, but are not in `answer`. `name` of `report` is the zone of
    the referral, `rrcache_lookup_delegation` returns the NS RRset, and look-ups with `takes_glue`
    return the addresses. NS RRsets and addresses with TTL 0 are not stored, so look-ups do not find
-   them: read such a referral without storing it, as described above. An NS RRset with unequal TTLs
-   is left out, unless `lowest_ttl` is set. The NS RRset of a referral has the lowest rank. If
-   somebody asked for the zone before it was delegated, the cache may hold an NXDOMAIN for the name
-   of the zone, or a NODATA for this name and type NS. As long as that negative answer is unexpired,
-   `rrcache_lookup_delegation` finds only the NS RRset of a zone above, or none. If it finds no NS
-   RRset below the zone whose server was asked, call `rrcache_forget` with type NS for the zone of
-   the referral, and store the response again.
+   them. To get them, read the referral without storing it, as described above. An NS RRset with
+   unequal TTLs is left out, unless `lowest_ttl` is set. The NS RRset of a referral has the lowest
+   rank. If somebody asked for the zone before it was delegated, the cache may hold an NXDOMAIN for
+   the name of the zone, or a NODATA for this name and type NS. As long as that negative answer is
+   unexpired, `rrcache_lookup_delegation` finds only the NS RRset of a zone above, or none. If it
+   finds no NS RRset below the zone whose server was asked, call `rrcache_forget` with type NS for
+   the zone of the referral, and store the response again.
 
    `answer` may be null. Otherwise, the call fills `answer` with the answer that the response itself
    contains, including data that are not stored: data with TTL 0, data that are too large, and data
@@ -368,14 +368,15 @@ RRCACHE_API bool rrcache_next(const struct rrcache_answer *answer, struct rrcach
    `answer` is then RRCACHE_MISS. For a query of type ANY, `answer` contains all RRsets of the name,
    except those that are left out for unequal TTLs. A look-up of type ANY, however, never returns an
    RRset from a response. To fill `answer`, the call follows at most RRCACHE_MOST_ALIASES CNAME
-   records, and returns RRsets of any size. The limits on what is relevant, and therefore stored,
+   records, and returns RRsets of any size. The call stores only relevant data, for which the limits
    are lower: fewer CNAME records are followed, and only smaller RRsets are relevant. In `answer`,
    rdata of types A and AAAA may have any length. If the query is of a type that is not kept, such
-   as NAPTR, each record is returned as a separate RRset, and RRCACHE_NODATA means that an SOA
-   record denies the type. If the query is of type NSEC or RRSIG, and the response has records of
-   this type for the name of the query, `answer` contains these records. No CNAME record is then
-   followed, even if the kind of the response is RRCACHE_RESPONSE_ALIAS. If only `report` contains
-   the result, as for a negative response without an SOA record, `kind` of `answer` is RRCACHE_MISS.
+   as NAPTR, each record is returned as a separate RRset, and RRCACHE_NODATA means that, according
+   to an SOA record, there are no data of the type. If the query is of type NSEC or RRSIG, and the
+   response has records of this type for the name of the query, `answer` contains these records. No
+   CNAME record is then followed, even if the kind of the response is RRCACHE_RESPONSE_ALIAS. If
+   only `report` contains the result, as for a negative response without an SOA record, `kind` of
+   `answer` is RRCACHE_MISS.
 
    If the response contains only the beginning of a CNAME chain, its kind is RRCACHE_RESPONSE_ALIAS,
    and `kind` of `answer` is RRCACHE_MISS. Keep the CNAME RRsets of this answer, and look up `end`
@@ -384,8 +385,9 @@ RRCACHE_API bool rrcache_next(const struct rrcache_answer *answer, struct rrcach
 
    Check `kind` of the answer first. Check the kind of the response only if the answer is a miss,
    because records of a type that is not kept do not affect the kind of a response. If the query is
-   of such a type, and the response contains or denies the data, the kind of the response is usually
-   RRCACHE_RESPONSE_UNUSABLE or, if a CNAME record leads to the data, RRCACHE_RESPONSE_ALIAS.
+   of such a type, and the response contains the data or denies that they exist, the kind of the
+   response is usually RRCACHE_RESPONSE_UNUSABLE or, if a CNAME record leads to the data,
+   RRCACHE_RESPONSE_ALIAS.
 
    Also returns RRCACHE_BAD_LIMITS if a limit is out of range, and RRCACHE_BAD_NAME if the zone or
    the name of the query is not in wire form. After these errors, `report` is unmodified. Once the
@@ -449,8 +451,8 @@ RRCACHE_API enum rrcache_status rrcache_forget(struct rrcache *cache,
    way. Later calls may pass smaller timestamps.
 
    Returns RRCACHE_BAD_RULES if `most` is 0. May also return RRCACHE_MOMENT_TOO_LARGE,
-   RRCACHE_HISTORY_FULL or RRCACHE_MEMORY; `swept` then has the number of keys that were removed
-   before the error. */
+   RRCACHE_HISTORY_FULL or RRCACHE_MEMORY; `swept` then contains the number of keys that were
+   removed before the error. */
 RRCACHE_API enum rrcache_status rrcache_sweep_all(struct rrcache *cache, uint64_t moment,
                                                   uint64_t most, struct rrcache_swept *swept);
 
@@ -489,12 +491,12 @@ RRCACHE_API enum rrcache_status rrcache_stats_text(const struct rrcache_stats *s
    recorded. */
 RRCACHE_API enum rrcache_status rrcache_record_all(struct rrcache *cache);
 
-/* Stops recording, and writes the archive of each shelf, which is the text of its history, to
-   `sink`, one shelf after another. Each shelf continues to record until its turn. So while a slow
-   sink writes the archives of earlier shelves, the events of later shelves still take memory. If
-   nothing is being recorded, the call writes nothing. Returns RRCACHE_SINK if the sink returns
-   nonzero. May also return RRCACHE_HISTORY_FULL or RRCACHE_MEMORY. After any of these errors,
-   recording has stopped, and the histories that were not written are dropped. */
+/* Stops recording, and writes the history of each shelf as text (an archive) to `sink`, one shelf
+   after another. Each shelf continues to record until its turn. So while a slow sink writes the
+   archives of earlier shelves, the events of later shelves still take memory. If nothing is being
+   recorded, the call writes nothing. Returns RRCACHE_SINK if the sink returns nonzero. May also
+   return RRCACHE_HISTORY_FULL or RRCACHE_MEMORY. After any of these errors, recording has stopped,
+   and the histories that were not written are dropped. */
 RRCACHE_API enum rrcache_status rrcache_stop_recording_all(struct rrcache *cache,
                                                            rrcache_shelf_sink sink, void *state);
 
@@ -502,8 +504,8 @@ RRCACHE_API enum rrcache_status rrcache_stop_recording_all(struct rrcache *cache
    chapter (segment) of an archive begins (docs/FORMATS.md). The text of a shelf shows its contents
    at one point in time, because other calls on the shelf wait while the call lists its keys. The
    call allocates memory for the keys of one shelf at a time. No call reads these contents back into
-   a cache. But a caller can store each entry in a new cache, with the rank, TTL and timestamp in
-   its line, in the order of the event numbers. After a restart of the machine, CLOCK_BOOTTIME
+   a cache. But a caller can store each entry in a new cache, in the order of the event numbers,
+   with the rank, TTL and timestamp from its line. After a restart of the machine, CLOCK_BOOTTIME
    begins at zero again, so the caller must first convert the timestamps (docs/RULES.md, "Listing
    and saving keys"). docs/CAPTURES.md, "A wrong answer", says what a dump shows about an answer.
    Returns RRCACHE_HAS_CHAPTERS while histories are being recorded, and RRCACHE_SINK if the sink
