@@ -58,7 +58,7 @@ BOUNDS = filled(
     "under a secret seed, and then peeks. A store reads and hashes the name once more, checks the "
     "rdata, and counts the octets of what it stores and evicts. A store that evicts also takes "
     "three blocks of memory from `malloc` and frees three, and a store that replaces takes two and "
-    "frees two. So changes of the C code alone cannot reach unbound's rates for random names. "
+    "frees two. So changes of the C code alone cannot make stores as fast as those of unbound. "
     "Stores in which the proved call takes a name that is already made would come closer.")
 KINDS = {"hit": "asks that hit", "zipf": "asks by Zipf's law", "hot": "asks for one name",
          "replace": "puts that replace", "evict": "puts that evict"}
