@@ -49,7 +49,7 @@ FEW, MANY = 20_000, 120_000
 OF_COUNTS = filled(
     "The next table has what one call takes on one thread, as valgrind counts it on a simulated "
     "processor with 32 KiB of first-level cache for data and 1 MiB of second-level cache: "
-    "instructions, and misses of either cache.")
+    "instructions, and misses of the cache of level 1 and of level 2.")
 BOUNDS = filled(
     "In the runs of asks for one name, memos answer the asks as long as nothing changes in the "
     "shelf of this name. A memo is an answer that a reader keeps. The other calls miss the "
@@ -166,7 +166,7 @@ def counted(made, args):
         rows.append([title, f"{own[0]:,.0f}", f"{other[0]:,.0f}",
                      *(f"{it:.1f}" for it in chain.from_iterable(zip(own[1:], other[1:])))])
         print(*rows[-1], flush=True)
-    head = (f"{what}, {whose}" for what in ("instructions", "first level", "second level")
+    head = (f"{what}, {whose}" for what in ("instr.", "level 1", "level 2")
             for whose in ("rrcache", "unbound"))
     return table(["What", *head], rows)
 
