@@ -55,6 +55,12 @@ def sleeps(process):
     return stat.rpartition(")")[2].split()[0] == "S"
 
 
+def heeds_interrupts():
+    """What a process does first so that an interrupt ends it. One that a shell runs in the
+    background ignores them, as do the processes that it begins."""
+    signal.signal(signal.SIGINT, signal.default_int_handler)
+
+
 def interrupted(*words, octets=b"sweep 0\n", is_read=True, is_begun=is_all_read):
     """The status of a tool that is interrupted where it waits for more than these octets on
     standard input, and what it writes and says; its lines are read, or nobody is there who would.
@@ -62,8 +68,7 @@ def interrupted(*words, octets=b"sweep 0\n", is_read=True, is_begun=is_all_read)
     buffered = {it: value for it, value in os.environ.items() if it != "PYTHONUNBUFFERED"}
     with subprocess.Popen(
             [sys.executable, *words], cwd=TOP, stdin=subprocess.PIPE, stdout=subprocess.PIPE,
-            stderr=subprocess.PIPE, env=buffered,
-            preexec_fn=lambda: signal.signal(signal.SIGINT, signal.SIG_DFL)) as run:
+            stderr=subprocess.PIPE, env=buffered, preexec_fn=heeds_interrupts) as run:
         run.stdin.write(octets)
         run.stdin.flush()
         while run.poll() is None and not (is_begun(run.stdin) and sleeps(run.pid)):

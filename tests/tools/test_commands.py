@@ -235,7 +235,7 @@ def interrupted(begun, *words, **others):
     with subprocess.Popen(
             [sys.executable, *words], stdin=subprocess.DEVNULL, stdout=subprocess.DEVNULL,
             stderr=subprocess.PIPE, text=True, start_new_session=True, **others,
-            preexec_fn=lambda: signal.signal(signal.SIGINT, signal.default_int_handler)) as run:
+            preexec_fn=shared.heeds_interrupts) as run:
         wait_until(lambda: begun.exists() or run.poll() is not None)
         os.killpg(run.pid, signal.SIGINT)
         said = run.stderr.read()
@@ -312,7 +312,8 @@ def test_a_second_interrupt_ends_what_if_at_once(tmp_path, trace_of):
                                            f"mv {begun}.new {begun}; wait")
     with subprocess.Popen([sys.executable, TOP / "bin" / "what-if", f"--program={program}",
                            trace_of(["checkpoint"])], start_new_session=True, text=True,
-                          stdout=subprocess.DEVNULL, stderr=subprocess.PIPE) as run:
+                          stdout=subprocess.DEVNULL, stderr=subprocess.PIPE,
+                          preexec_fn=shared.heeds_interrupts) as run:
         try:
             wait_until(begun.exists)
             run.send_signal(signal.SIGINT)

@@ -17,7 +17,7 @@ from types import SimpleNamespace
 
 import pytest
 
-from tests.tools.shared import LIMIT, TOP
+from tests.tools.shared import LIMIT, TOP, heeds_interrupts
 from tools import beside, kit, parts
 from tools.beside import Archive
 from tools.parts import Part, run_again, run_lanes
@@ -166,7 +166,7 @@ with Commands() as commands:
                [Part("c", ["touch {tmp_path}/ready", "sleep 600"], True)]], commands)
 """)
     with subprocess.Popen([sys.executable, script], stderr=subprocess.DEVNULL,
-                          stdout=subprocess.DEVNULL) as run:
+                          stdout=subprocess.DEVNULL, preexec_fn=heeds_interrupts) as run:
         children = set()
         while run.poll() is None and not (len(children) == 3 and (tmp_path / "ready").exists()):
             time.sleep(0.01)
