@@ -52,15 +52,15 @@ OF_COUNTS = filled(
     "instructions, and misses of the cache of level 1 and of level 2.")
 BOUNDS = filled(
     "In the runs of asks for one name, memos answer the asks as long as nothing changes in the "
-    "shelf of this name. A memo is an answer that a reader keeps. The other calls miss the "
-    "second-level cache about as often as those of unbound, or less often. What bounds them is the "
-    "number of their instructions, most of which are in proved code. A look-up folds the name and "
-    "hashes it under a secret seed, and then peeks. A store reads and hashes the name once more, "
-    "checks the rdata, and counts the octets of what it stores and evicts. A store that evicts "
-    "also takes three blocks of memory from `malloc` and frees three, and a store that replaces "
-    "takes two and frees two. So changes of the C code alone cannot make stores as fast as those "
-    "of unbound. Stores in which the proved call takes a name that is already made would come "
-    "closer.")
+    "shelf of this name. A memo is an answer that a reader keeps. Asks by Zipf's law take fewer "
+    "instructions than those of unbound, but miss the second-level cache about as often. The "
+    "other calls take more instructions than those of unbound, most of them in proved code. A "
+    "look-up folds the name and hashes it under a secret seed, and then peeks. A store reads "
+    "and hashes the name once more, checks the rdata, and counts the octets of what it stores "
+    "and evicts. A store that evicts also takes three blocks of memory from `malloc` and frees "
+    "three, and a store that replaces takes two and frees two. Stores in which the proved call "
+    "takes a name that is already made would take fewer instructions. What limits the rates "
+    "with several threads was not measured.")
 KINDS = {"hit": "asks that hit", "zipf": "asks by Zipf's law", "hot": "asks for one name",
          "replace": "puts that replace", "evict": "puts that evict"}
 # How tall the picture is, how tall its highest bar, and where the bars stand.
