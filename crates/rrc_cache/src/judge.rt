@@ -67,7 +67,8 @@ pub(crate) fn judge<'a>(store: &'a Store, hash: u64, ask: AskRef<'_>, stale: u64
     ensures ahead { IfSome result.entry (λ held. ahead_of held.key.now store.now.entries ≤ result.age) }
     ensures miss { IfNone result.entry (result.age ≡ 0) }
 {
-    // The mark comes from memory as a rule, and the set too: begun first, it loads beside the set.
+    // Neither the filter nor the set is usually in the processor's cache. The filter is read first,
+    // so that both are loaded at the same time.
     let may_hold = store.may_hold_negative(hash);
     let set = store.get(hash, ask.key_at(Slot::Set(ask.rtype)));
     let nx = get_negative(store, hash, ask, Slot::Nx, may_hold);

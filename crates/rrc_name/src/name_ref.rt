@@ -2,9 +2,11 @@
 ghost use Rattle.rrc_name.specs.Wire.{IsWireForm};
 ghost use Rattle.std.proofs.Props.{props};
 
+use crate::fault::WireNameFault;
 use crate::name::Name;
 use crate::octets::Octets;
 use crate::shared::Shared;
+use crate::wire;
 use std::alloc::{AllocError, Global};
 use std::hash::{Hash, Hasher};
 
@@ -17,10 +19,22 @@ pub struct NameRef<'a> {
 }
 
 impl<'a> NameRef<'a> {
-    ghost use Rattle.std.specs.Prelude.{◌≡◌, IfOk};
+    ghost use Rattle.std.specs.Prelude.{◌≡◌, IfOk, IfErr};
     ghost use Rattle.rrc_name.specs.NameRef.{name_in};
+    ghost use Rattle.rrc_name.specs.WireFault.{IsFirstFaultOfWire};
 
-    /// The name that has this wire form, lent. `NameBuffer::fold` is what tests octets.
+    /// The name that has this wire form (RFC 1035 section 3.1), lent, in the spelling received. The
+    /// octets are read from the left and their first fault is answered, which is never `Memory`.
+    pub fn from_wire(octets: &'a [u8]) -> Result<NameRef<'a>, WireNameFault>
+        ensures ok { IfOk result (λ name. name_in name ≡ octets.now) }
+        ensures wire_form { IfOk result (λ _. IsWireForm octets.now) }
+        ensures err { IfErr result (λ fault. IsFirstFaultOfWire octets.now fault) }
+    {
+        wire::test_wire_form(octets)?;
+        Ok(NameRef::lent(octets))
+    }
+
+    /// The name that has this wire form, lent. `from_wire` is what tests octets.
     pub fn lent(octets: &'a [u8]) -> NameRef<'a>
         requires { IsWireForm octets.now }
         ensures { name_in result ≡ octets.now }
