@@ -1,8 +1,9 @@
 // SPDX-License-Identifier: MIT
-ghost use Rattle.std.specs.Prelude.{◌≡◌, ◌≤◌, ◌/◌, ◌%◌, ◌^◌, drop, length, take, IfErr, IfNone, IfOk, IfSome, OnOk};
-ghost use Rattle.rrc_cache.specs.Seeds.{keyed_hash, IsHashOf};
+ghost use Rattle.std.specs.Prelude.{◌≡◌, ◌≤◌, drop, length, take, IfErr, IfNone, IfOk, IfSome, OnOk};
+ghost use Rattle.rrc_cache.specs.Seeds.{IsHashOf};
 ghost use Rattle.rrc_shelf.specs.Asks.{octets_of};
 ghost use Rattle.rrc_shelf.specs.Folding.{FoldingDue, IsFoldedName};
+ghost use Rattle.rrc_shelf.specs.Parts.{keyed_part_of};
 ghost use Rattle.rrc_shelf.specs.Refusals.{NameRefused, WireRefused};
 ghost use Rattle.rrc_shelf.specs.Statuses.{number_of, number_of_call};
 ghost use Rattle.rrc_name.specs.Key.{IsFolded};
@@ -14,7 +15,7 @@ use crate::folded_name::FoldedName;
 use crate::status::Status;
 use crate::terms::Division;
 use rrc_cache::{NameHash, keyed_hash};
-use rrc_name::{Name, NameBuffer, NameRef, WireNameFault};
+use rrc_name::{Name, NameRef, WireNameFault};
 use std::alloc::Global;
 
 /// The name whose wire form some octets are.
@@ -30,48 +31,46 @@ pub(crate) fn name_of(alloc: Global, octets: &[u8]) -> Result<Name, Status>
     }
 }
 
-/// The folded name whose wire form some octets are, lent from a buffer. It takes no memory.
-fn folded_name_of<'a>(buffer: &'a mut NameBuffer, octets: &[u8]) -> Result<NameRef<'a>, Status>
-    ensures name { IfOk result (λ name. name_in name ≡ folded octets.now) }
-    ensures low { IfOk result (λ name. IsFolded (name_in name)) }
+/// The name whose wire form some octets are, lent. It takes no memory.
+fn lent_from(octets: &[u8]) -> Result<NameRef<'_>, Status>
+    ensures name { IfOk result (λ name. name_in name ≡ octets.now) }
     ensures wire_form { OnOk result (IsWireForm octets.now) }
     ensures refused { IfErr result (λ status. WireRefused octets.now (number_of status)) }
 {
-    match buffer.fold(octets) {
+    match NameRef::from_wire(octets) {
         Ok(name) => Ok(name),
         Err(_) => Err(Status::BadName),
     }
 }
 
-/// Writes octets to where a name has its own, of a name that is none. They are written in place,
-/// since to make an array of them and to move it there takes a third longer.
+/// Writes octets, folded, to where a name has its own, of a name that is none. They are folded in
+/// place, since to make an array of them and to move it there takes a third longer.
 #[inline(always)]
-fn write_octets(wire: &[u8], made: &mut FoldedName)
+fn write_folded(wire: &[u8], made: &mut FoldedName)
     requires fits { length wire.now ≤ 255 }
     requires none { made.old.size ≡ 0 }
-    ensures octets { take (length wire.now) made.new.octets ≡ wire.now }
+    ensures octets { take (length wire.now) made.new.octets ≡ folded wire.now }
     ensures behind { drop (length wire.now) made.new.octets ≡ drop (length wire.now) made.old.octets }
 {
     for at in 0..wire.len() {
-        made.octets[at] = wire[at];
+        made.octets[at] = wire[at].to_ascii_lowercase();
     }
 }
 
-/// Writes a folded name with its hash by the seed of a division, and the part that it lies in.
+/// Writes a name, folded, with its hash by the seed of a division, and the part that it lies in.
 #[inline(always)]
 fn write_hashed(name: NameRef<'_>, division: &Division, made: &mut FoldedName)
-    requires folded { IsFolded (name_in name) }
     requires parts { 1 ≤ division.now.count }
     ensures made { 1 ≤ made.new.size }
-    ensures octets { octets_of made.new ≡ name_in name.entry }
+    ensures octets { octets_of made.new ≡ folded (name_in name.entry) }
     ensures behind { drop made.new.size made.new.octets ≡ drop made.new.size made.old.octets }
     ensures seed { made.new.seed ≡ division.now.seed }
-    ensures part { made.new.part ≡ keyed_hash division.now.seed (name_in name.entry) / 2 ^ 32 % division.now.count }
+    ensures part { made.new.part ≡ keyed_part_of division.now.seed (name_in name.entry) division.now.count }
 {
     let wire = name.as_slice();
     made.size = 0;
-    write_octets(wire, made);
-    let hash = keyed_hash(wire, &division.seed);
+    write_folded(wire, made);
+    let hash = keyed_hash(&made.octets[..wire.len()], &division.seed);
     made.hash = hash;
     made.part = part_of_hash(hash, division.count);
     made.seed = division.seed;
@@ -87,9 +86,7 @@ pub fn fold_name(octets: &[u8], division: &Division, made: &mut FoldedName) -> R
     ensures due { FoldingDue octets.now division.now (number_of_call result) }
 {
     check_division(division)?;
-    let mut buffer = NameBuffer::new();
-    let name = folded_name_of(&mut buffer, octets)?;
-    write_hashed(name, division, made);
+    write_hashed(lent_from(octets)?, division, made);
     Ok(())
 }
 

@@ -1,6 +1,6 @@
 // SPDX-License-Identifier: MIT
 use super::name;
-use rrc_name::{Name, NameBuffer, WireNameFault};
+use rrc_name::{Name, NameRef, WireNameFault};
 use std::alloc::Global;
 use std::cmp::Ordering;
 use std::process::Abort;
@@ -90,39 +90,22 @@ fn a_folded_name_is_shared(rt: HostRuntime) {
     assert!(rt; is_folded(&rt, rt.alloc(), "wWw.EXAMPLE.Z-9.[", wire));
 }
 
-/// Whether octets are read into the stack as the folded name of a wire form, which is lent, and
-/// whether the name that is made of it is the same.
-fn is_lent(rt: &impl Abort, alloc: Global, octets: &[u8], low: &[u8]) -> bool {
-    let mut buffer = NameBuffer::new();
-    let lent = buffer.fold(octets).expect(rt, "no name");
+/// Whether octets are lent as the name of a wire form, and the name that is made of it is the same.
+fn is_lent(rt: &impl Abort, alloc: Global, octets: &[u8]) -> bool {
+    let lent = NameRef::from_wire(octets).expect(rt, "no name");
     let own = lent.to_owned(alloc).expect(rt, "no name of its own");
-    lent.as_slice() == low && own.as_ref() == lent
+    lent.as_slice() == octets && own.as_ref() == lent
 }
 
 #[test]
-fn a_folded_name_is_read_into_the_stack(rt: HostRuntime) {
+fn a_wire_form_is_lent_as_a_name(rt: HostRuntime) {
     let octets = b"\x03wWw\x07EXAMPLE\x03Z-9\x01[\0".as_slice();
-    let low = b"\x03www\x07example\x03z-9\x01[\0".as_slice();
-    assert!(rt; is_lent(&rt, rt.alloc(), octets, low));
-}
-
-/// Whether a buffer that held a name holds another that is read into it, and nothing of the first.
-fn is_read_anew(rt: &impl Abort, first: &[u8], second: &[u8]) -> bool {
-    let mut buffer = NameBuffer::new();
-    let _ = buffer.fold(first).expect(rt, "no first name");
-    buffer.fold(second).expect(rt, "no second name").as_slice() == second
-}
-
-#[test]
-fn a_buffer_takes_one_name_after_another(rt: HostRuntime) {
-    let (long, short) = (b"\x03www\x07example\0".as_slice(), b"\x01a\0".as_slice());
-    assert!(rt; is_read_anew(&rt, long, short));
-    assert!(rt; is_read_anew(&rt, short, long));
+    assert!(rt; is_lent(&rt, rt.alloc(), octets));
+    assert!(rt; is_lent(&rt, rt.alloc(), b"\0".as_slice()));
 }
 
 fn fault_of(octets: &[u8]) -> Option<WireNameFault> {
-    let mut buffer = NameBuffer::new();
-    match buffer.fold(octets) {
+    match NameRef::from_wire(octets) {
         Ok(_name) => None,
         Err(fault) => Some(fault),
     }
@@ -136,7 +119,7 @@ static NO_NAMES: [(&[u8], WireNameFault); 3] = [
 ];
 
 #[test]
-fn what_is_no_name_is_not_read_into_the_stack(rt: HostRuntime) {
+fn what_is_no_name_is_not_lent(rt: HostRuntime) {
     for (octets, fault) in &NO_NAMES {
         assert!(rt; fault_of(octets) == Some(*fault), "{fault}");
     }
