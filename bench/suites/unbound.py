@@ -9,14 +9,16 @@ asks that hit and copy, of any name and by Zipf's law, one name that is always a
 replace, and puts that evict in a cache with no room. It is `struct rrcache`, and in runs of their
 own shelves whose locks are mutexes, spin locks, as unbound's are, or locks for readers, under which
 asks are peeks. Each ratio is that of the medians of RUNS runs; ratios count, since machines
-differ. valgrind counts the instructions and the cache misses of a call. `--write` writes also
-docs/beside-unbound.svg, the rates of `struct rrcache`.
+differ. valgrind counts the instructions and the cache misses of a call. Programs of one thread that
+run side by side, each with a cache of its own, show what of the rate is the machine's. `--write`
+writes also docs/beside-unbound.svg, the rates of `struct rrcache`.
 """
 import os
 import re
 import shutil
 import subprocess
 import sys
+from concurrent.futures import ThreadPoolExecutor
 from functools import partial
 from itertools import chain
 from pathlib import Path
@@ -50,6 +52,11 @@ OF_COUNTS = filled(
     "The next table has what one call takes on one thread, as valgrind counts it on a simulated "
     "processor with 32 KiB of first-level cache for data and 1 MiB of second-level cache: "
     "instructions, and misses of the cache of level 1 and of level 2.")
+OF_GROWTH = (
+    "The next table has the rate of {0} threads as a multiple of the rate of one thread, if all "
+    "threads use one cache; and the rate of {0} processes as a multiple of the rate of one, if "
+    "each process has one thread and its own cache. Such processes share nothing but the "
+    "processors and the memory of the machine.")
 BOUNDS = filled(
     "In the runs of asks for one name, memos answer the asks as long as nothing changes in the "
     "shelf of this name. A memo is an answer that a reader keeps. Asks by Zipf's law take fewer "
@@ -172,6 +179,36 @@ def counted(made, args):
     return table(["What", *head], rows)
 
 
+def together(program, threads, kind, args):
+    """The rate of threads that share a cache, in calls per nanosecond."""
+    return 1 / run(program, threads, args.calls, kind, args.names)[0]
+
+
+def apart(program, processes, kind, args):
+    """The rate of so many processes of one thread, each with a cache of its own."""
+    with ThreadPoolExecutor(processes) as pool:
+        found = pool.map(lambda _: run(program, 1, args.calls // processes, kind, args.names),
+                         range(processes))
+        return sum(1 / took for took, _ in found)
+
+
+def growth(made, args):
+    """The table of the rates with the most threads, as multiples of the rates with one."""
+    rows, most = [], max(args.threads)
+    ways = {(own, way): partial(way, made[own]) for own in ("cache", "unbound")
+            for way in (together, apart)}
+    for kind, title in KINDS.items():
+        found = in_turn(args.runs, {
+            (name, count): partial(undisturbed, way, count, kind, args)
+            for name, way in ways.items() for count in (1, most)})
+        rates = {name: median(each) for name, each in found.items()}
+        rows.append([title, *(f"{rates[it, most] / rates[it, 1]:.2f}" for it in ways)])
+        print(*rows[-1], flush=True)
+    head = (f"{whose}, {way}" for whose in ("rrcache", "unbound")
+            for way in ("one cache", "own caches"))
+    return table(["What", *head], rows)
+
+
 def main(args):
     if shutil.which("apt-get") is None:
         return "unbound's source comes by apt-get, which is not on this machine"
@@ -193,7 +230,8 @@ def main(args):
             for kind, title in KINDS.items()])]
         if way == OF_CACHE:
             parts += ["![Rates of `struct rrcache`, as multiples of unbound's](beside-unbound.svg)",
-                      OF_COUNTS, counted(made, args), BOUNDS]
+                      OF_COUNTS, counted(made, args), filled(OF_GROWTH.format(max(args.threads))),
+                      growth(made, args), BOUNDS]
             rates = {kind: [rate for _, rate in each] for kind, each in found.items()}
     if args.write:
         (TOP / "docs" / "beside-unbound.svg").write_text(picture(rates, args.threads))
