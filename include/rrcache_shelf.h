@@ -1030,12 +1030,13 @@ static inline bool rrcache_is_there(const void *octets, size_t size)
     return octets != NULL || size == 0;
 }
 
-/* Whether two ranges of memory overlap. */
+/* Whether two ranges of memory overlap: one of them begins within the other. If `a` is above `b`,
+   `b - a` wraps around, and is then larger than the size of any object. */
 static inline bool rrcache_overlap(const void *one, size_t one_size, const void *other,
                                    size_t other_size)
 {
     uintptr_t a = (uintptr_t)one, b = (uintptr_t)other;
-    return one_size != 0 && other_size != 0 && (a < b ? b - a < one_size : a - b < other_size);
+    return one_size != 0 && other_size != 0 && (b - a < one_size || a - b < other_size);
 }
 
 /* Whether a range of memory that a call reads overlaps either of two ranges that the call
