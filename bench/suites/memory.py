@@ -1,11 +1,13 @@
 # SPDX-License-Identifier: MIT
-"""Tells what allocators hold of keys to the octets that are told, of keys of all kinds.
+"""Tells what allocators hold of keys to the octets that are told, of keys of all kinds, and what a
+process holds of a whole cache.
 
 Each kind of keys of tests/hostile/rooms.py is offered to a shelf, KEYS of them, which is never
 swept, or after each tenth offer. What is held is what glibc's malloc gave out more than before
 (mallinfo2), and in runs of their own what jemalloc did (stats.allocated), where Debian's package
 libjemalloc2 is there. Each number is the least or the most while the last half of the keys came,
-so that a table doubles once in between.
+so that a table doubles once in between. Caches with limits of MEBIBYTES are filled by threads, four
+times over, with RRsets of one address that expire and are swept (bench/c/resident.c).
 """
 import ctypes
 import json
@@ -13,11 +15,21 @@ import os
 import sys
 from pathlib import Path
 
-from bench.page import write_section
-from bench.setup import BUILD, TOP, ran
+from bench.page import filled, table, write_section
+from bench.setup import ARCHIVE, BUILD, SOURCES, TOP, compiled, ran
 
-NEEDS, TITLE = (BUILD / "librrcache.so",), "Memory that keys take"
-OPTIONS = {"keys": (9_300, "keys of each kind")}
+NEEDS, TITLE = (BUILD / "librrcache.so", ARCHIVE), "Memory that keys take"
+OPTIONS = {"keys": (9_300, "keys of each kind"), "mebibytes": ([64, 512, 1280], "limits of caches"),
+           "threads": ([1, 4], "threads that fill a cache")}
+# What an RRset of one address counts as, and the most keys of a cache.
+SET_OCTETS, MOST_KEYS = 320, 64 * 65_536
+OF_CACHES = (
+    "The next table is about a `struct rrcache` whose limit is `octets`, with the default number "
+    "of keys and glibc's malloc. Threads stored RRsets of one address under four times as many "
+    "names as the limit allows, and swept expired keys, so most keys were evicted. The last three "
+    "columns are multiples of `octets`: what the keys at the end count; how much more memory the "
+    "process had at most (`VmHWM`) than before it opened the cache; and how much "
+    "[SECURITY](../SECURITY.md#the-shared-cache-in-c) says to plan for.")
 
 
 def allocated():
@@ -50,6 +62,22 @@ def measured(way, keys, preload):
                           LD_PRELOAD=preload, MALLOC_CONF="tcache:false").stdout)
 
 
+def caches(args):
+    """The table of what whole caches hold."""
+    program = compiled("resident", SOURCES / "resident.c", ARCHIVE)
+    rows = []
+    for mebibytes in args.mebibytes:
+        limit = mebibytes << 20
+        for threads in args.threads:
+            names = 4 * min(limit // SET_OCTETS, MOST_KEYS)
+            keys, counted, held = map(int, ran(program, threads, mebibytes, names).stdout.split())
+            plan = 2.575 * limit + 4 * MOST_KEYS
+            rows.append([f"{mebibytes:,} MiB", threads, f"{keys:,}",
+                         *(f"{it / limit:.2f}" for it in (counted, held, plan))])
+            print(*rows[-1], flush=True)
+    return table(["`octets`", "threads", "keys", "counted", "held", "plan"], rows)
+
+
 def main(args):
     jemalloc = next(Path("/usr/lib").glob("*/libjemalloc.so.2"), None)
     ways = {"glibc": ""} | ({"jemalloc": str(jemalloc)} if jemalloc else {})
@@ -67,7 +95,8 @@ def main(args):
         "`rrcache_sizes` returned. Names had 3 to 255 octets. RRsets had 1 to 200 records of 4 to "
         "16,000 octets. SOA records of negative answers, with their owners, had 23 to 785 octets. "
         "Each kind was measured twice: on a shelf that was never swept, and on one that was swept "
-        "after every tenth offer. No key was evicted, and nothing was recorded.")
+        "after every tenth offer. No key was evicted, and nothing was recorded.",
+        filled(OF_CACHES), caches(args))
 
 
 if __name__ == "__main__":
