@@ -10,6 +10,7 @@
 #include <stdlib.h>
 #include <string.h>
 
+#include "../../tests/c/resident.h"
 #include "../../tests/c/structs.h"
 
 enum { MOST_THREADS = 64, EACH = 1000, MOST_SWEPT = 100 };
@@ -27,20 +28,6 @@ static void need(bool holds, const char *what)
         return;
     fprintf(stderr, "%s\n", what);
     exit(1);
-}
-
-/* The octets of memory of the process, now (VmRSS) or at most (VmHWM). */
-static uint64_t resident(const char *field)
-{
-    char line[256];
-    uint64_t octets = 0;
-    FILE *status = fopen("/proc/self/status", "r");
-    need(status != NULL, "no /proc/self/status");
-    while (fgets(line, sizeof line, status) != NULL)
-        if (strncmp(line, field, strlen(field)) == 0)
-            octets = 1024 * (uint64_t)strtoul(line + strlen(field) + 1, NULL, 10);
-    fclose(status);
-    return octets;
 }
 
 static void store(uint64_t number, uint64_t moment)
@@ -87,6 +74,7 @@ int main(int count, char **words)
     uint64_t threads = strtoull(words[1], NULL, 10), before = resident("VmRSS");
     struct rrcache_config config = {.octets = strtoull(words[2], NULL, 10) << 20};
     struct rrcache_stats stats;
+    need(before != 0, "no /proc/self/status");
     need(threads >= 1 && threads <= MOST_THREADS, "1 to 64 threads");
     need(rrcache_open(&cache, &config) == RRCACHE_DONE, "no cache");
     run(threads, strtoull(words[3], NULL, 10));

@@ -11,6 +11,7 @@
 #include <string.h>
 #include <time.h>
 
+#include "../c/resident.h"
 #include "../c/structs.h"
 
 #define LIMIT (UINT64_C(16) << 20)
@@ -46,21 +47,6 @@ static void need(bool holds, const char *what)
         printf("FAIL: %s\n", what);
         exit(1);
     }
-}
-
-/* The octets of memory of the process, now (VmRSS) or at most (VmHWM). */
-static uint64_t resident(const char *field)
-{
-    char line[256];
-    uint64_t octets = 0;
-    FILE *status = fopen("/proc/self/status", "r");
-    need(status != NULL, "there is a /proc/self/status");
-    while (fgets(line, sizeof line, status) != NULL)
-        if (strncmp(line, field, strlen(field)) == 0)
-            octets = 1024 * (uint64_t)strtoul(line + strlen(field) + 1, NULL, 10);
-    fclose(status);
-    need(octets != 0, "/proc/self/status tells the memory");
-    return octets;
 }
 
 static void fill_data(void)
@@ -161,6 +147,7 @@ int main(int count, char **words)
     need(count >= 4 && count % 2 == 0, "the arguments are PERCENT WHAT OFFERS [WHAT OFFERS ..]");
     fill_data();
     uint64_t before = resident("VmRSS"), percent = strtoul(words[1], NULL, 10);
+    need(before != 0, "/proc/self/status tells the memory");
     need(rrcache_make(&shelf, &RULES) == RRCACHE_DONE, "a shelf is made");
     for (int place = 2; place < count; place += 2) {
         const struct flood *flood = FLOODS, *end = FLOODS + sizeof FLOODS / sizeof *FLOODS;
