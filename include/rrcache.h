@@ -171,13 +171,15 @@ struct rrcache_request {
 enum { RRCACHE_MOST_ALIASES = 16 };
 
 /* The usual size of the buffer for an answer. If a buffer is too small, the call returns
-   RRCACHE_SMALL. This size is large enough for every answer from a look-up, unless a server sent a
-   CNAME or DNAME RRset of several records, which RFC 2181 section 10.1 does not allow for CNAME, or
-   the caller itself stored a large RRset. A buffer of 1 MiB is large enough for every answer from a
-   look-up whose RRsets were all received in responses. An answer from `rrcache_store` may need more
-   than RRCACHE_ANSWER_OCTETS in two more cases: if the type of the query is ANY or a type that is
-   not kept, such as RRSIG, or if an RRset has more than 16,384 octets of rdata. If that answer does
-   not fit, everything is still stored, and the answer contains the RRsets that fit. */
+   RRCACHE_SMALL. The usual size is large enough for every answer from a look-up, with two
+   exceptions. First, a server may have sent a CNAME or DNAME RRset of several records (RFC 2181
+   section 10.1 does not allow several CNAME records). Second, the caller itself may have stored a
+   large RRset. A buffer of 1 MiB is large enough for every answer from a look-up whose RRsets were
+   all received in responses. An answer from `rrcache_store` may need more than
+   RRCACHE_ANSWER_OCTETS in two more cases. First, the type of the query may be ANY, or a type that
+   is not kept, such as RRSIG. Second, an RRset may have more than 16,384 octets of rdata. If an
+   answer from `rrcache_store` does not fit, the data are still stored, and the answer contains the
+   RRsets that fit. */
 enum { RRCACHE_ANSWER_OCTETS = 65536 };
 
 /* The answer to a question: a list of RRsets, which `rrcache_next` returns one by one, and a kind.
@@ -292,10 +294,10 @@ RRCACHE_API void rrcache_close(struct rrcache *cache);
 
    With the mode RRCACHE_STALE_IF_FAILED, stale data are acceptable for a name of the chain if
    resolution of the type has failed recently for that name (RFC 8767 section 5). If resolution of
-   the question itself has failed recently, stale data are acceptable for every name of the chain
-   and, in any mode, a miss at the end of the chain is RRCACHE_FAILED. This second rule does not
-   apply if the name of the question is an alias whose CNAME record was stored after the failure.
-   docs/RULES.md, "Serving stale data", describes the whole procedure, with the timers.
+   the question itself has failed recently, then with this mode stale data are acceptable for every
+   name of the chain. In every mode, a miss at the end of the chain is then RRCACHE_FAILED. Neither
+   rule applies if the name of the question is an alias whose CNAME record was stored after the
+   failure. docs/RULES.md, "Serving stale data", describes the whole procedure, with the timers.
 
    CNAME RRsets before a miss are not yet an answer for a client: the resolver has to resolve `end`
    next, and has to answer SERVFAIL if it cannot resolve that name. The cache does not combine
@@ -369,13 +371,13 @@ RRCACHE_API bool rrcache_next(const struct rrcache_answer *answer, struct rrcach
    records, and returns RRsets of any size. If the response is stored as a failure, `kind` of
    `answer` is RRCACHE_FAILED. The call stores only relevant data, for which the limits are lower:
    fewer CNAME records are followed, and only smaller RRsets are relevant. In `answer`, rdata of
-   types A and AAAA may have any length. If the query is of a type that is not kept, such as NAPTR,
-   each record is returned as a separate RRset, and RRCACHE_NODATA means that, according to an SOA
-   record, there are no data of the type. If the query is of type NSEC or RRSIG, and the response
-   has records of this type for the name of the query, `answer` contains these records. No CNAME
-   record is then followed, even if the kind of the response is RRCACHE_RESPONSE_ALIAS. If only
-   `report` contains the result, as for a negative response without an SOA record, `kind` of
-   `answer` is RRCACHE_MISS.
+   types A and AAAA may have any length. Each record of a type that is not kept, such as NAPTR, is
+   returned as a separate RRset. If the query is of such a type, RRCACHE_NODATA means that,
+   according to an SOA record, there are no data of the type. If the query is of type NSEC or RRSIG,
+   and the response has records of this type for the name of the query, `answer` contains these
+   records. No CNAME record is then followed, even if the kind of the response is
+   RRCACHE_RESPONSE_ALIAS. If only `report` contains the result, as for a negative response without
+   an SOA record, `kind` of `answer` is RRCACHE_MISS.
 
    If the response contains only the beginning of a CNAME chain, its kind is RRCACHE_RESPONSE_ALIAS,
    and `kind` of `answer` is RRCACHE_MISS. Keep the CNAME RRsets of this answer, and look up `end`

@@ -1030,8 +1030,9 @@ static inline bool rrcache_is_there(const void *octets, size_t size)
     return octets != NULL || size == 0;
 }
 
-/* Whether two ranges of memory overlap: one of them begins within the other. If `a` is above `b`,
-   `b - a` wraps around, and is then larger than the size of any object. */
+/* Whether two ranges of memory overlap, that is, whether one of them begins within the other. An
+   empty range overlaps nothing. If `a` is above `b`, `b - a` wraps around, and is then larger than
+   the size of any object. */
 static inline bool rrcache_overlap(const void *one, size_t one_size, const void *other,
                                    size_t other_size)
 {
