@@ -68,13 +68,11 @@ void *begin_thread(unsigned number)
     return NULL;
 }
 
-static struct rrcache_name made_name(const struct name *name)
+static void make_name(struct rrcache_name *made, const struct name *name)
 {
     static const struct rrcache_parts parts = {SHARDS, SEED};
-    struct rrcache_name made;
-    if (rrcache_make_name(&made, name->octets, name->size, &parts) != RRCACHE_DONE)
+    if (rrcache_make_name(made, name->octets, name->size, &parts) != RRCACHE_DONE)
         fail("no name");
-    return made;
 }
 
 void put(void *thread, const struct name *name, unsigned turn)
@@ -82,8 +80,10 @@ void put(void *thread, const struct name *name, unsigned turn)
     const uint8_t data[] = {0, 4, 192, 0, 2, (uint8_t)turn};
     const struct rrcache_set set = address_of(name, data, sizeof data);
     uint32_t outcome;
-    struct shelf *shelf = &shelves[made_name(name).part];
+    struct rrcache_name made;
     (void)thread;
+    make_name(&made, name);
+    struct shelf *shelf = &shelves[made.part];
     TAKE(&shelf->lock);
     if (rrcache_offer_set(&shelf->cache, &set, &outcome) != RRCACHE_DONE)
         fail("a put was refused");
@@ -95,9 +95,10 @@ bool ask(void *thread, const struct name *name)
     const struct rrcache_question question = plain_question(A);
     struct rrcache_told told;
     uint8_t buffer[512];
-    const struct rrcache_name made = made_name(name);
-    struct shelf *shelf = &shelves[made.part];
+    struct rrcache_name made;
     (void)thread;
+    make_name(&made, name);
+    struct shelf *shelf = &shelves[made.part];
     TAKE_TO_ASK(&shelf->lock);
     if (ASK(&shelf->cache, &made, &question, &told, buffer, sizeof buffer) != RRCACHE_DONE)
         fail("an ask was refused");
