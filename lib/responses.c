@@ -247,6 +247,7 @@ static uint64_t find_soa(const struct said *said, const struct rrcache_name *nam
 {
     uint64_t index = 0;
     enum rrcache_status status;
+    *told = (struct rrcache_told){0};
     do {
         status = rrcache_tell_offer(said->offers, index++, zone, told, NULL, 0);
     } while (status != RRCACHE_NO_OFFERS
