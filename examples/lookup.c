@@ -36,14 +36,15 @@ static bool look_up(struct rrcache *cache, const uint8_t *sent, int size)
     query.id = sent[0] << 8 | sent[1];
     query.name_size = request.name_size = size - 16;
     request.mode = RRCACHE_NO_STALE;
-    response.zone_size = 1; /* the root: a resolver answers for all names */
+    response.zone_size = 1;     /* the root: a resolver answers for all names */
+    response.lowest_ttl = true; /* a resolver clears AA */
     if (rrcache_lookup(cache, &request, &answer) == RRCACHE_DONE && answer.kind == RRCACHE_MISS) {
         int came = res_send(sent, size, received, sizeof received);
         response.size = came > 0 ? came : 0;
         rrcache_store(cache, &query, &response, &report, &answer); /* also of TTL 0 */
     }
     print(&answer);
-    return answer.kind != RRCACHE_MISS;
+    return answer.kind != RRCACHE_MISS && answer.kind != RRCACHE_FAILED;
 }
 
 int main(int count, char **words)

@@ -13,7 +13,7 @@
 
    Threads
    - The library starts no threads.
-   - Any thread may call any function at any time, with one exception: when a thread calls
+   - Any thread may call any function at any time, except as follows. When a thread calls
      `rrcache_close`, no other call on the cache may be running, and no call may follow. A call may
      block on a lock. If a thread is canceled during a call (`pthread_cancel`, with deferred
      cancellation), the call ends before the thread does. No function may be called in a signal
@@ -295,9 +295,10 @@ RRCACHE_API void rrcache_close(struct rrcache *cache);
    With the mode RRCACHE_STALE_IF_FAILED, stale data are acceptable for a name of the chain if
    resolution of the type has failed recently for that name (RFC 8767 section 5). If resolution of
    the question itself has failed recently, then with this mode stale data are acceptable for every
-   name of the chain. In every mode, a miss at the end of the chain is then RRCACHE_FAILED. Neither
-   rule applies if the name of the question is an alias whose CNAME record was stored after the
-   failure. docs/RULES.md, "Serving stale data", describes the whole procedure, with the timers.
+   name of the chain. In every mode, a miss at the end of the chain is then RRCACHE_FAILED. A
+   failure of the question itself does not count in these two ways if the name of the question is an
+   alias whose CNAME record was stored after the failure. docs/RULES.md, "Serving stale data",
+   describes the whole procedure, with the timers.
 
    CNAME RRsets before a miss are not yet an answer for a client: the resolver has to resolve `end`
    next, and has to answer SERVFAIL if it cannot resolve that name. The cache does not combine
