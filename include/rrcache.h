@@ -443,14 +443,14 @@ RRCACHE_API enum rrcache_status rrcache_forget(struct rrcache *cache,
 
 /* Removes fully expired keys until it has removed at least `most` keys or no such key is left. A
    key is fully expired if its entry can answer no question at `moment`, not even as stale data.
-   `most` must be at least 1. The call writes to `swept` how many keys it removed, and whether no
-   fully expired key is left. A sweep continues in the shelf in which the previous sweep ended. The
-   call releases the locks of a shelf after every 64 keys, and lets threads that wait for these
-   locks go first. There are two exceptions: keys that expire in the same second are removed
-   together, and the first sweep of a shelf visits all its keys. A caller need not sweep, because
-   eviction makes room. A sweep at the timestamp 2^40 removes each key whose entry has a timestamp
-   below 2^40 - 2^32, so a caller with a clock such as CLOCK_BOOTTIME can empty the cache in this
-   way. Later calls may pass smaller timestamps.
+   `most` must be at least 1. The call writes to `swept` how many keys it removed; `is_done` is 1 if
+   no fully expired key is left, and 0 if such a key may be left. A sweep continues in the shelf in
+   which the previous sweep ended. The call releases the locks of a shelf after every 64 keys, and
+   lets threads that wait for these locks go first. There are two exceptions: keys that expire in
+   the same second are removed together, and the first sweep of a shelf visits all its keys. A
+   caller need not sweep, because eviction makes room. A sweep at the timestamp 2^40 removes each
+   key whose entry has a timestamp below 2^40 - 2^32, so a caller with a clock such as
+   CLOCK_BOOTTIME can empty the cache in this way. Later calls may pass smaller timestamps.
 
    Returns RRCACHE_BAD_RULES if `most` is 0. May also return RRCACHE_MOMENT_TOO_LARGE,
    RRCACHE_HISTORY_FULL or RRCACHE_MEMORY; `swept` then contains the number of keys that were

@@ -40,8 +40,8 @@ ARCHIVES = ["apt-get", "indextargets", "Created-By: Packages", "Codename: bookwo
             "deb-src [signed-by=/usr/share/keyrings/debian-archive-keyring.gpg]"
             " $(REPO_URI) $(RELEASE) $(COMPONENT)"]
 OF_CACHE = filled("The first table is for `struct rrcache` with its own locks. Its look-ups follow"
-                  " aliases, but the asks of shelves in the other tables do not. No name in these"
-                  " tables is an alias:")
+                  " aliases, but the asks of shelves in the other tables do not. In these runs, no"
+                  " name is an alias.")
 # What valgrind counts of a run, and the caches of the processor that it simulates: their octets,
 # ways and the octets of a line.
 EVENTS = ("I +refs", "D1 +misses", "LLd misses")
