@@ -368,17 +368,17 @@ RRCACHE_API bool rrcache_next(const struct rrcache_answer *answer, struct rrcach
    that RRset contains the data of the type, or a CNAME record that leads to them, `kind` of
    `answer` is then RRCACHE_MISS. For a query of type ANY, `answer` contains all RRsets of the name,
    except those that are left out for unequal TTLs. A look-up of type ANY, however, never returns an
-   RRset from a response. To fill `answer`, the call follows at most RRCACHE_MOST_ALIASES CNAME
-   records, and returns RRsets of any size. If the response is stored as a failure, `kind` of
-   `answer` is RRCACHE_FAILED. The call stores only relevant data, for which the limits are lower:
-   fewer CNAME records are followed, and only smaller RRsets are relevant. In `answer`, rdata of
-   types A and AAAA may have any length. Each record of a type that is not kept, such as NAPTR, is
-   returned as a separate RRset. If the query is of such a type, RRCACHE_NODATA means that,
-   according to an SOA record, there are no data of the type. If the query is of type NSEC or RRSIG,
-   and the response has records of this type for the name of the query, `answer` contains these
-   records. No CNAME record is then followed, even if the kind of the response is
-   RRCACHE_RESPONSE_ALIAS. If only `report` contains the result, as for a negative response without
-   an SOA record, `kind` of `answer` is RRCACHE_MISS.
+   RRset, because each RRset is stored under its own type. To fill `answer`, the call follows at
+   most RRCACHE_MOST_ALIASES CNAME records, and returns RRsets of any size. If the response is
+   stored as a failure, `kind` of `answer` is RRCACHE_FAILED. The call stores only relevant data,
+   for which the limits are lower: fewer CNAME records are followed, and only smaller RRsets are
+   relevant. In `answer`, rdata of types A and AAAA may have any length. Each record of a type that
+   is not kept, such as NAPTR, is returned as a separate RRset. If the query is of such a type,
+   RRCACHE_NODATA means that, according to an SOA record, there are no data of the type. If the
+   query is of type NSEC or RRSIG, and the response has records of this type for the name of the
+   query, `answer` contains these records. No CNAME record is then followed, even if the kind of the
+   response is RRCACHE_RESPONSE_ALIAS. If only `report` contains the result, as for a negative
+   response without an SOA record, `kind` of `answer` is RRCACHE_MISS.
 
    If the response contains only the beginning of a CNAME chain, its kind is RRCACHE_RESPONSE_ALIAS,
    and `kind` of `answer` is RRCACHE_MISS. Keep the CNAME RRsets of this answer, and look up `end`
