@@ -174,12 +174,12 @@ enum { RRCACHE_MOST_ALIASES = 16 };
    RRCACHE_SMALL. The usual size is large enough for every answer from a look-up, with two
    exceptions. First, a server may have sent a CNAME or DNAME RRset of several records (RFC 2181
    section 10.1 does not allow several CNAME records). Second, the caller itself may have stored a
-   large RRset. A buffer of 1 MiB is large enough for every answer from a look-up whose RRsets were
-   all received in responses. An answer from `rrcache_store` may need more than
-   RRCACHE_ANSWER_OCTETS in two more cases. First, the type of the query may be ANY, or a type that
-   is not kept, such as RRSIG. Second, an RRset may have more than 16,384 octets of rdata. If an
-   answer from `rrcache_store` does not fit, the data are still stored, and the answer contains the
-   RRsets that fit. */
+   large RRset. For an answer from a look-up without `with_dnames`, a buffer of 1 MiB is always
+   large enough if all RRsets of the answer were received in responses. An answer from
+   `rrcache_store` may need more than RRCACHE_ANSWER_OCTETS in two more cases. First, the type of
+   the query may be ANY, or a type that is not kept, such as RRSIG. Second, an RRset may have more
+   than 16,384 octets of rdata. If an answer from `rrcache_store` does not fit, the data are still
+   stored, and the answer contains the RRsets that fit. */
 enum { RRCACHE_ANSWER_OCTETS = 65536 };
 
 /* The answer to a question: a list of RRsets, which `rrcache_next` returns one by one, and a kind.
