@@ -66,8 +66,12 @@ BOUNDS = filled(
     "and hashes the name once more, checks the rdata, and counts the octets of what it stores "
     "and evicts. A store that evicts also takes three blocks of memory from `malloc` and frees "
     "three, and a store that replaces takes two and frees two. Stores in which the proved call "
-    "takes a name that is already made would take fewer instructions. What limits the rates "
-    "with several threads was not measured.")
+    "takes a name that is already made would take fewer instructions. Processes with their own "
+    "caches reach about four times the rate of one process, so it is not the processors or the "
+    "memory of the machine that limit four threads (numbers above 4 show how much the speed of a "
+    "virtual machine varies). Threads that use one cache reach less with asks that hit and with "
+    "puts. They share locks, cache lines that move between processors, and blocks of memory that "
+    "one thread allocates and another frees. How much each of these costs was not measured.")
 KINDS = {"hit": "asks that hit", "zipf": "asks by Zipf's law", "hot": "asks for one name",
          "replace": "puts that replace", "evict": "puts that evict"}
 # How tall the picture is, how tall its highest bar, and where the bars stand.
