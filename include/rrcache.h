@@ -3,51 +3,53 @@
 
    `struct rrcache` is a cache that does its own locking. The cache is written in C, on top of the
    shelves (shards) of rrcache_shelf.h. The exported functions of the shelves (`rrc_..`) are proved
-   to meet their contracts, and docs/RULES.md describes the rules that they follow. The inline
-   functions of the headers and the C code of the cache are tested, not proved. A program with one
-   thread, or with its own locks, can use the shelves directly.
+   to meet their contracts. docs/RULES.md describes the rules that these functions follow. The
+   inline functions of the headers and the C code of the cache are tested, not proved. A program
+   with one thread, or with its own locks, can use the shelves directly.
 
-   SECURITY.md, "A caller's checklist", lists what a resolver itself has to do, and examples/stub.c
-   is a complete example. A process may have several caches, for example one for each view. Each
-   cache has its own seed and limits.
+   SECURITY.md, "A caller's checklist", lists what a resolver itself has to do. The program
+   examples/stub.c is a complete example. A process may have several caches, for example one for
+   each view. Each cache has its own seed and limits.
 
    Threads
    - The library starts no threads.
-   - Any thread may call any function at any time, except as follows. When a thread calls
-     `rrcache_close`, no other call on the cache may be running, and no call may follow. A call may
-     block on a lock. If a thread is canceled during a call (`pthread_cancel`, with deferred
-     cancellation), the call ends before the thread does. No function may be called in a signal
-     handler, or in the child of a process that forked while several threads ran. If a process with
-     one thread forks, the parent and the child each have their own copy of the cache. The two
-     copies have the same seed, but neither process sees the data that the other process stores.
-     Processes cannot share a cache.
-   - The library chooses the shelf of a name by a hash of the name, keyed with a secret seed. Each
-     shelf has `readers` places (see `struct rrcache_config`). A place is a lock that one thread at
-     a time holds during a look-up. The library assigns threads to these places in turn. A look-up
-     that does not move its entry in the LRU order takes only the place of its thread or, if that
-     place is taken, another place. Such look-ups do not block each other, even for the same name,
-     as long as there are at least as many places as threads. A call that changes a shelf keeps new
+   - Any thread may call any function at any time, with two exceptions. First, when a thread calls
+     `rrcache_close`, no other call on the cache may be running, and no call may follow. Second, no
+     function may be called in a signal handler, or in the child of a process that forked while
+     several threads ran. A call may block on a lock. If a thread is canceled during a call
+     (`pthread_cancel`, with deferred cancellation), the call ends before the thread does. If a
+     process with one thread forks, the parent and the child each have their own copy of the cache.
+     The two copies have the same seed, but neither process sees the data that the other process
+     stores. Processes cannot share a cache.
+   - The library chooses the shelf of a name by a hash of the name. This hash is keyed with a secret
+     seed. Each shelf has `readers` places (see `struct rrcache_config`). A place is a lock that one
+     thread at a time holds during a look-up. The library assigns threads to these places in turn. A
+     look-up that does not move its entry in the LRU order takes only the place of its thread or, if
+     that place is taken, another place. Such look-ups do not block each other, even for the same
+     name, if there are at least as many places as threads. A call that changes a shelf keeps new
      look-ups out of the shelf, and waits until the look-ups that have begun are finished. No call
      holds locks of two shelves at the same time.
    - If a thread repeats a look-up in the same second, and the name is in lower case, the library
      may copy the answer from a memo, which is a saved copy of an earlier answer. The library does
-     so only if nothing in the shelf of the name has changed since it gave that answer. The library
-     keeps memos only of negative answers and of answers with a single RRset. A look-up that is
-     answered from a memo takes no place. The result of this look-up and its effect on the counters
-     are the same as without a memo.
+     so only if nothing in the shelf of the name has changed since the library gave that earlier
+     answer. The library keeps memos only of negative answers and of answers with a single RRset. A
+     look-up that is answered from a memo takes no place. The result of this look-up and its effect
+     on the counters are the same as without a memo.
    - ThreadSanitizer cannot see the locks in the compiled library. To run a program under
      ThreadSanitizer, compile the files of lib/ with the same sanitizer, and link them before the
-     shared library. The static library contains the same functions, so if you link it instead, the
-     linker also needs `-Wl,--allow-multiple-definition`. ThreadSanitizer may still falsely report
-     races in `free`, because it does not see how shelves count the references to data. The line
-     `race_top:free$` in a suppressions file prevents these reports.
-   - Eviction is LRU. But a look-up that finds an entry does not always move this entry to the front
-     of the LRU order, because a move changes the shelf. In a shelf that is at least three quarters
-     full, by octets or by keys, a look-up moves its entry if more than a quarter of the shelf's
-     keys may have been used since the last use of that entry. Otherwise a look-up moves its entry
-     only in two cases. First, if most of the recent look-ups had to move their entries, the next
-     few look-ups move theirs too. Second, every look-up moves its entry if `exact_recency` is set
-     or histories are being recorded. docs/RULES.md says which LRU order a caller can rely on.
+     shared library. The static library contains the same functions as these files. So if you link
+     the static library instead of the shared library, the linker also needs
+     `-Wl,--allow-multiple-definition`. ThreadSanitizer may still falsely report races in `free`,
+     because it does not see how shelves count the references to data. The line `race_top:free$` in
+     a suppressions file prevents these reports.
+   - Eviction follows the LRU order. But a look-up that finds an entry does not always move this
+     entry to the front of the LRU order, because a move changes the shelf. In a shelf that is at
+     least three quarters full, by octets or by keys, a look-up moves its entry if more than a
+     quarter of the shelf's keys may have been used since the last use of that entry. Apart from
+     this, a look-up moves its entry in only two cases. First, if most of the recent look-ups had to
+     move their entries, the next few look-ups move theirs too. Second, if `exact_recency` is set or
+     histories are being recorded, every look-up moves its entry. docs/RULES.md says which LRU order
+     a caller can rely on.
 
    Memory
    - An answer is a copy in the caller's buffer. The copy stays valid after the entries that it came
@@ -70,8 +72,8 @@
    - A cache has at most 64 shelves of at most 65,536 keys each, so it has at most 4,194,304 keys.
      An RRset of one address with a short name uses 320 octets. So a cache holds at most about 1.3
      GB of such RRsets, even if `octets` is larger.
-   - The configuration of an open cache cannot be changed. Memory that the library frees returns to
-     malloc, which decides whether to return it to the operating system.
+   - The configuration of an open cache cannot be changed. The library returns the memory that it
+     frees to malloc, and malloc decides whether to return this memory to the operating system.
    - An RRset that would use more memory than its shelf's share of `octets` is not stored. In tests,
      the largest RRset of a response used 242,208 octets. So that each of 64 shelves can store such
      an RRset, set `octets` to at least 16 MiB. If `octets` has to be smaller, use fewer shelves.
@@ -183,8 +185,8 @@ enum { RRCACHE_MOST_ALIASES = 16 };
 enum { RRCACHE_ANSWER_OCTETS = 65536 };
 
 /* The answer to a question: a list of RRsets, which `rrcache_next` returns one by one, and a kind.
-   An answer has at most RRCACHE_MOST_ALIASES + 1 RRsets, and with DNAME RRsets up to
-   RRCACHE_MOST_ALIASES more. If the type of the query is ANY or is not kept, an answer from
+   An answer has at most RRCACHE_MOST_ALIASES + 1 RRsets, and up to RRCACHE_MOST_ALIASES more if it
+   includes DNAME RRsets. If the type of the query is ANY or is not kept, an answer from
    `rrcache_store` may have more RRsets. The caller sets `buffer` and its size `room`, sets
    `with_dnames` to get DNAME RRsets, and initializes the other fields to 0. */
 struct rrcache_answer {
@@ -287,18 +289,19 @@ RRCACHE_API void rrcache_close(struct rrcache *cache);
 
 /* Looks up the answer to a question. The answer contains the CNAME RRsets of the CNAME chain that
    begins at the name of the question, and the reply for the name at the end of the chain: an RRset
-   of the type, a negative answer (RRCACHE_NODATA or RRCACHE_NXDOMAIN), or a miss (RRCACHE_MISS or
-   RRCACHE_FAILED). After a miss, the answer still contains the CNAME RRsets. At each name, the rule
-   of `rrcache_ask_alias` chooses between a CNAME record and data of the type (RFC 1034 section
-   4.3.2). For a question of type CNAME, ANY, NSEC or RRSIG, no CNAME record is followed.
+   of the question's type, a negative answer (RRCACHE_NODATA or RRCACHE_NXDOMAIN), or a miss
+   (RRCACHE_MISS or RRCACHE_FAILED). After a miss, the answer still contains the CNAME RRsets. At
+   each name, the rule of `rrcache_ask_alias` chooses between a CNAME record and data of the type
+   (RFC 1034 section 4.3.2). For a question of type CNAME, ANY, NSEC or RRSIG, no CNAME record is
+   followed.
 
    With the mode RRCACHE_STALE_IF_FAILED, stale data are acceptable for a name of the chain if
    resolution of the type has failed recently for that name (RFC 8767 section 5). If resolution of
-   the question itself has failed recently, then with this mode stale data are acceptable for every
-   name of the chain. In every mode, a miss at the end of the chain is then RRCACHE_FAILED. A
-   failure of the question itself does not count in these two ways if the name of the question is an
-   alias whose CNAME record was stored after the failure. docs/RULES.md, "Serving stale data",
-   describes the whole procedure, with the timers.
+   the question itself has failed recently, this failure has two effects. First, with
+   RRCACHE_STALE_IF_FAILED, stale data are acceptable for every name of the chain. Second, in every
+   mode, a miss at the end of the chain is RRCACHE_FAILED. The failure has neither effect if the
+   name of the question is an alias whose CNAME record was stored after the failure. docs/RULES.md,
+   "Serving stale data", describes the whole procedure, with the timers.
 
    CNAME RRsets before a miss are not yet an answer for a client: the resolver has to resolve `end`
    next, and has to answer SERVFAIL if it cannot resolve that name. The cache does not combine
@@ -334,21 +337,21 @@ RRCACHE_API bool rrcache_next(const struct rrcache_answer *answer, struct rrcach
    use is left out. If a limit of `response` is 0, the limit of the cache applies.
 
    Returns RRCACHE_OTHER_QUERY if the octets do not answer the query: the caller then has to drop
-   them and keep waiting (RFC 5452 section 9.1). RRCACHE_NO_QUESTION and, unless TC is set,
-   RRCACHE_BAD_MESSAGE mean that the server has failed; the call then stores nothing. A response
-   with an RCODE other than NOERROR and NXDOMAIN, such as SERVFAIL, is stored as a failure of its
-   question. So pass such a response only when no other server is left to ask. The RCODE is in the
-   low four bits of the fourth octet of the response. The call stores nothing from a truncated
-   response (TC set): send the query again over TCP. If a truncated response ends inside a record,
-   the call returns RRCACHE_BAD_MESSAGE. So if TC is set (0x02 of the third octet),
-   RRCACHE_BAD_MESSAGE does not mean that the server has failed.
+   them and keep waiting (RFC 5452 section 9.1). RRCACHE_NO_QUESTION means that the server has
+   failed. RRCACHE_BAD_MESSAGE means the same, unless TC is set. A call that returns either error
+   stores nothing. A response with an RCODE other than NOERROR and NXDOMAIN, such as SERVFAIL, is
+   stored as a failure of its question. So pass such a response only when no other server is left to
+   query. The RCODE is in the low four bits of the fourth octet of the response. The call stores
+   nothing from a truncated response (TC set): send the query again over TCP. If a truncated
+   response ends inside a record, the call returns RRCACHE_BAD_MESSAGE. So if TC (the bit 0x02 of
+   the third octet) is set, RRCACHE_BAD_MESSAGE does not mean that the server has failed.
 
    To read a response without storing it, call `rrcache_read_response` with a `struct rrcache_parts`
    that has one part and any seed other than zeros, and with limits that are not 0. That call
    compares the response with the query as `rrcache_store` does. Then `rrcache_tell_response`
    returns the kind and RCODE, and `rrcache_tell_offer` returns each relevant RRset, even one with
-   TTL 0. In this way, a resolver with several servers to ask can see that one of them has failed,
-   without storing a failure.
+   TTL 0. In this way, a resolver that can query several servers can see that one of them has
+   failed, without storing a failure.
 
    The RRsets of a referral are stored, but are not in `answer`. `name` of `report` is the zone of
    the referral, `rrcache_lookup_delegation` returns the NS RRset, and look-ups with `takes_glue`
@@ -357,28 +360,29 @@ RRCACHE_API bool rrcache_next(const struct rrcache_answer *answer, struct rrcach
    unequal TTLs is left out, unless `lowest_ttl` is set. The NS RRset of a referral has the lowest
    rank. If somebody asked for the zone before it was delegated, the cache may hold an NXDOMAIN for
    the name of the zone, or a NODATA for this name and type NS. As long as that negative answer is
-   unexpired, `rrcache_lookup_delegation` finds only the NS RRset of a zone above, or none. If it
-   finds no NS RRset below the zone whose server was asked, call `rrcache_forget` with type NS for
-   the zone of the referral, and store the response again.
+   unexpired, `rrcache_lookup_delegation` finds only the NS RRset of a zone above the zone of the
+   referral, or none. If `rrcache_lookup_delegation` finds no NS RRset below the zone whose server
+   was queried, call `rrcache_forget` with type NS for the zone of the referral, and store the
+   response again.
 
    `answer` may be null. Otherwise, the call fills `answer` with the answer that the response itself
    contains, including data that are not stored: data with TTL 0, data that are too large, and data
    of lower rank than the cached data. So a waiting client gets the data that the server sent. If AA
    is clear and `lowest_ttl` is not set, an RRset with unequal TTLs is left out of `answer` too. If
-   that RRset contains the data of the type, or a CNAME record that leads to them, `kind` of
-   `answer` is then RRCACHE_MISS. For a query of type ANY, `answer` contains all RRsets of the name,
-   except those that are left out for unequal TTLs. A look-up of type ANY, however, never returns an
-   RRset, because each RRset is stored under its own type. To fill `answer`, the call follows at
-   most RRCACHE_MOST_ALIASES CNAME records, and returns RRsets of any size. If the response is
-   stored as a failure, `kind` of `answer` is RRCACHE_FAILED. The call stores only relevant data,
-   for which the limits are lower: fewer CNAME records are followed, and only smaller RRsets are
-   relevant. In `answer`, rdata of types A and AAAA may have any length. Each record of a type that
-   is not kept, such as NAPTR, is returned as a separate RRset. If the query is of such a type,
-   RRCACHE_NODATA means that, according to an SOA record, there are no data of the type. If the
-   query is of type NSEC or RRSIG, and the response has records of this type for the name of the
-   query, `answer` contains these records. No CNAME record is then followed, even if the kind of the
-   response is RRCACHE_RESPONSE_ALIAS. If only `report` contains the result, as for a negative
-   response without an SOA record, `kind` of `answer` is RRCACHE_MISS.
+   that RRset contains the data of the query's type, or a CNAME record that leads to these data,
+   `kind` of `answer` is then RRCACHE_MISS. For a query of type ANY, `answer` contains all RRsets of
+   the name, except those that are left out because their TTLs are unequal. A look-up of type ANY,
+   however, never returns an RRset, because each RRset is stored under its own type. If the response
+   is stored as a failure, `kind` of `answer` is RRCACHE_FAILED. To fill `answer`, the call follows
+   at most RRCACHE_MOST_ALIASES CNAME records, and returns RRsets of any size. But the call stores
+   only relevant data, for which the limits are lower: fewer CNAME records are followed, and only
+   smaller RRsets are relevant. In `answer`, rdata of types A and AAAA may have any length. Each
+   record of a type that is not kept, such as NAPTR, is returned as a separate RRset. If the query
+   is of such a type, RRCACHE_NODATA means that, according to an SOA record, there are no data of
+   the type. If the query is of type NSEC or RRSIG, and the response has records of this type for
+   the name of the query, `answer` contains these records. No CNAME record is then followed, even if
+   the kind of the response is RRCACHE_RESPONSE_ALIAS. If only `report` contains the result, as for
+   a negative response without an SOA record, `kind` of `answer` is RRCACHE_MISS.
 
    If the response contains only the beginning of a CNAME chain, its kind is RRCACHE_RESPONSE_ALIAS,
    and `kind` of `answer` is RRCACHE_MISS. Keep the CNAME RRsets of this answer, and look up `end`
@@ -441,16 +445,17 @@ RRCACHE_API enum rrcache_status rrcache_store_failure(struct rrcache *cache,
 RRCACHE_API enum rrcache_status rrcache_forget(struct rrcache *cache,
                                                const struct rrcache_request *request);
 
-/* Removes fully expired keys until it has removed at least `most` keys or no such key is left. A
+/* Removes fully expired keys until at least `most` keys have been removed or no such key is left. A
    key is fully expired if its entry can answer no question at `moment`, not even as stale data.
    `most` must be at least 1. The call writes to `swept` how many keys it removed; `is_done` is 1 if
    no fully expired key is left, and 0 if such a key may be left. A sweep continues in the shelf in
    which the previous sweep ended. The call releases the locks of a shelf after every 64 keys, and
-   lets threads that wait for these locks go first. There are two exceptions: keys that expire in
-   the same second are removed together, and the first sweep of a shelf visits all its keys. A
-   caller need not sweep, because eviction makes room. A sweep at the timestamp 2^40 removes each
-   key whose entry has a timestamp below 2^40 - 2^32, so a caller with a clock such as
-   CLOCK_BOOTTIME can empty the cache in this way. Later calls may pass smaller timestamps.
+   lets threads that wait for these locks go first. There are two exceptions: the call does not
+   release the locks while it removes keys that expire in the same second, or while the first sweep
+   of a shelf visits all its keys. A caller need not sweep, because eviction makes room. A sweep at
+   the timestamp 2^40 removes each key whose entry has a timestamp below 2^40 - 2^32, so a caller
+   with a clock such as CLOCK_BOOTTIME can empty the cache in this way. Later calls may pass smaller
+   timestamps.
 
    Returns RRCACHE_BAD_RULES if `most` is 0. May also return RRCACHE_MOMENT_TOO_LARGE,
    RRCACHE_HISTORY_FULL or RRCACHE_MEMORY; `swept` then contains the number of keys that were
@@ -467,7 +472,8 @@ RRCACHE_API enum rrcache_status rrcache_sweep_all(struct rrcache *cache, uint64_
 
 /* Writes to `stats` the counts since the cache was opened, and the numbers of keys and octets that
    are held now. Each number is the sum over all shelves. The call reads one shelf after another.
-   While it reads a shelf, look-ups in that shelf wait, as they wait for a store. */
+   While the call reads a shelf, look-ups in that shelf wait, as they do while a call stores data in
+   the shelf. */
 RRCACHE_API enum rrcache_status rrcache_stats(struct rrcache *cache, struct rrcache_stats *stats);
 
 #if defined __cplusplus && defined __GNUC__

@@ -148,11 +148,11 @@
      not kept, or if the name of its question is out of bailiwick.
    - The kept classes are IN, CH and HS (RFC 1035 section 3.2.4). docs/RULES.md lists the kept
      types. Each class of a name has its own keys. A record of a message is ignored unless its class
-     is the class of the question. Data of type A in class CH are not kept, because these rdata
-     begin with a name. It is an error to ask for a class that is not kept, or for type 0. A
-     question for any other type that is not kept is allowed: the reply is a miss, or
-     RRCACHE_NXDOMAIN if an unexpired NXDOMAIN of the name is cached. For type ANY, such an NXDOMAIN
-     gives the reply even if unexpired RRsets of higher rank are cached for the name.
+     is the class of the question. Data of type A in class CH are not kept, because the rdata of
+     this type in this class begin with a name. It is an error to ask for a class that is not kept,
+     or for type 0. A question for any other type that is not kept is allowed: the reply is a miss,
+     or RRCACHE_NXDOMAIN if an unexpired NXDOMAIN of the name is cached. For type ANY, such an
+     NXDOMAIN gives the reply even if unexpired RRsets of higher rank are cached for the name.
    - Even if a message that answers its question has just been offered, the next ask for this
      question may be a miss. Apart from evictions, there are six possible causes: the answer is at
      the end of a CNAME chain, or the chain is too long; the TTL is 0; the type is not kept; the
@@ -199,16 +199,16 @@
      `max_stale` seconds after it has expired.
 
    History and chapters
-   - The history of a shelf is a log of events. Each ask, sweep or offer that returns no error is
-     one event, even if the offer is outranked. A message causes one event for each offer that is
-     made from it. A trim causes one or two events for each key that it removes.
+   - The history of a shelf is a log of events. Each ask, sweep or offer that succeeds is one event,
+     and an outranked offer is an event too. A message causes one event for each offer that is made
+     from it. A trim causes one or two events for each key that it removes.
    - A new shelf does not record its history. While a shelf does not record, its events are numbered
      but use no memory, no chapter becomes full or is closed, and there are no chapters to drop.
      `rrcache_record` starts recording: from then on, the shelf keeps events in memory.
      `rrcache_stop_recording` stops recording and returns the recorded chapters.
      `rrcache_stop_and_drop` stops recording and frees the recorded chapters. No reply depends on
-     whether a shelf records. The following points about events and chapters apply only while a
-     shelf records, except for the statements about event numbers and chapter numbers.
+     whether a shelf records. The rest of this section applies only while a shelf records, except
+     for the statements about event numbers and chapter numbers.
    - An event uses 96 octets, plus the octets of its names and data.
    - A chapter is a segment of the history, and new events are added to the open chapter. If a call
      has to write an event and the open chapter is full, the call first closes that chapter and
@@ -537,8 +537,8 @@ struct rrcache_question {
 /* The entry of a key. All fields are 0 if nothing is stored, and also in a reply of kind
    RRCACHE_MISS or RRCACHE_FAILED. An auditor can look up `number` in the history of the shelf to
    find the event that stored the entry. Two entries of one shelf never have the same `number`, but
-   entries of two shelves may. So if a caller keeps its own data about entries, it looks these data
-   up by the shelf and `number`, or by the name and `number`. The name can replace the shelf,
+   entries of two shelves may. So a caller that keeps its own data about entries must look up these
+   data by the shelf and `number`, or by the name and `number`. The name can replace the shelf,
    because all entries of a name are in one shelf. */
 struct rrcache_entry {
     uint32_t kind;   /* enum rrcache_kind, or 0 if nothing is stored */
@@ -620,7 +620,7 @@ struct rrcache_limits {
     }
 
 /* The timestamp at which to sweep. `rrcache_sweep` ignores `most`. `rrcache_sweep_some` stops, at
-   the latest, when it has removed `most` or more keys, or has made `most` sweeps. */
+   the latest, when it has removed at least `most` keys or has made `most` sweeps. */
 struct rrcache_sweep_at {
     uint64_t moment;
     uint64_t line;
@@ -688,11 +688,10 @@ struct rrcache_line {
 
    All structs of this header and of rrcache.h are part of the ABI of the library, because exported
    functions read or write them. These structs keep their size and their fields in all versions with
-   the same soname. There is one exception: only an inline function reads
-   `struct rrcache_parsed_response`, so a later version of this header may add fields to this
-   struct. Exported functions of rrcache.h read the other structs below, but the inline functions of
-   this header pass only the fields of these structs to the library, never the structs
-   themselves. */
+   the same soname. There is one exception: a later version of this header may add fields to `struct
+   rrcache_parsed_response`, because only an inline function reads this struct. Exported functions
+   of rrcache.h read the other structs below, but the inline functions of this header pass only the
+   fields of these structs to the library, never the structs themselves. */
 
 /* The query that a response has to answer. */
 struct rrcache_query {
@@ -706,8 +705,9 @@ struct rrcache_query {
                         field, so that an attacker also has to guess the case of each letter */
 };
 
-/* A response: its octets, without the two octets of length that precede it over TCP; the zone whose
-   server sent it; when it arrived; and how long its data may be cached. */
+/* A response: its octets, without the two octets of length that precede a response over TCP; the
+   zone whose server sent the response; the timestamp of its arrival; and the limits on how long its
+   data may be cached. */
 struct rrcache_response {
     const uint8_t *octets;
     size_t size;
@@ -803,12 +803,12 @@ struct rrcache_failure {
 typedef int (*rrcache_sink)(void *state, const void *octets, size_t size);
 
 /* The numbers of octets that `rrcache_sizes` adds up. RRCACHE_ENTRY_OCTETS is for a key, including
-   its places in the LRU order, the map of keys and the expiry queue. RRCACHE_VALUE_OCTETS is for a
-   name, the rdata of a record, or a list of several records. RRCACHE_VALUE_OCTETS includes room for
-   RRCACHE_INLINE_OCTETS octets of the name or rdata. A longer name, longer rdata, or a list needs a
-   separate block of memory, for which RRCACHE_BLOCK_OCTETS is added. RRCACHE_SHARED_OCTETS is for
-   the reference count of a name or of the data of a key, and for the block of memory that contains
-   this count. */
+   its positions in the LRU order, the map of keys and the expiry queue. RRCACHE_VALUE_OCTETS is for
+   a name, the rdata of a record, or a list of several records. RRCACHE_VALUE_OCTETS includes room
+   for RRCACHE_INLINE_OCTETS octets of the name or rdata. A longer name, longer rdata, or a list
+   needs a separate block of memory, for which RRCACHE_BLOCK_OCTETS is added. RRCACHE_SHARED_OCTETS
+   is for the reference count of a name or of the data of a key, and for the block of memory that
+   contains this count. */
 enum {
     RRCACHE_ENTRY_OCTETS = 160,
     RRCACHE_VALUE_OCTETS = 48,
@@ -1100,11 +1100,11 @@ static inline enum rrcache_status rrcache_make_name(struct rrcache_name *name,
     return (enum rrcache_status)rrc_make_name(rrcache_octets(octets, size), size, parts, name);
 }
 
-/* Starts to record the history of the shelf. The open chapter ends unrecorded, and the next chapter
-   begins with the entries of the shelf. The call takes as much memory and time as closing a chapter
-   in which every key was used. Replies do not change. If the shelf already records, the call does
-   nothing. Returns RRCACHE_HISTORY_FULL if the open chapter has the number 2^62. If the call fails,
-   the shelf is unchanged. Needs the write lock. */
+/* Starts to record the history of the shelf. The open chapter ends without being recorded, and the
+   next chapter begins with the entries of the shelf. The call takes as much memory and time as
+   closing a chapter in which every key was used. Replies do not change. If the shelf already
+   records, the call does nothing. Returns RRCACHE_HISTORY_FULL if the open chapter has the number
+   2^62. If the call fails, the shelf is unchanged. Needs the write lock. */
 static inline enum rrcache_status rrcache_record(struct rrcache_shelf *shelf)
 {
     if (shelf == NULL)
@@ -1328,8 +1328,8 @@ static inline size_t rrcache_put_response(const struct rrcache_query *query,
    writes the message to the front of a buffer, and the size of the message to `size`. The caller
    then passes the message to `rrcache_read_response`, with the same query, like any other response.
    So the rules on relevance, ranks, negative answers, referrals and failures apply to the parsed
-   response too. `rrcache_compose_response` never allocates and needs no lock, and its time is
-   linear in the number of octets of its arguments.
+   response too. `rrcache_compose_response` never allocates and needs no lock. The time that the
+   call takes is linear in the number of octets of its arguments.
 
    Before this call, the caller must check QR, the opcode, the identifier and the question of the
    response against the query (RFC 5452 section 9.1). If `with_case` of the query is set, the caller
@@ -1415,8 +1415,8 @@ static inline enum rrcache_status rrcache_can_read(const struct rrcache_response
 
    The call reads the header and the question of the message first, and compares the identifier and
    the question with those of the query (RFC 5452 section 9.1). If either differs, the call returns
-   RRCACHE_OTHER_QUERY and does not read the rest of the message, so it takes almost no time to
-   reject such a message. Anyone may have sent such a message, so the caller drops it and keeps
+   RRCACHE_OTHER_QUERY and does not read the rest of the message. So the rejection of such a message
+   takes almost no time. Anyone may have sent such a message, so the caller drops it and keeps
    waiting for the response. The call also returns RRCACHE_OTHER_QUERY if the message is too short
    for a header, or if QR is clear. If `with_case` of the query is set, a name with a letter in
    another case counts as different. A name that is written with a compression pointer always counts
@@ -1499,7 +1499,7 @@ static inline enum rrcache_status rrcache_read_response(struct rrcache_offers *o
 /* Reads a response as `rrcache_read_response` does, but does not compare the response with a query.
    The handle then holds all offers of the response that are in bailiwick. The call ignores
    `lowest_ttl` and `clears_denied` of the response. A `response` line of a trace (docs/FORMATS.md)
-   makes the same offers. The errors are those of `rrcache_read_response`, but RRCACHE_BAD_MESSAGE
+   causes the same offers. The errors are those of `rrcache_read_response`, but RRCACHE_BAD_MESSAGE
    replaces RRCACHE_OTHER_QUERY and RRCACHE_NO_QUESTION. Needs no lock. */
 static inline enum rrcache_status
 rrcache_read_message_unchecked(struct rrcache_offers *offers,
@@ -1647,13 +1647,14 @@ static inline enum rrcache_status rrcache_tell_octets(const struct rrcache_name 
     return RRCACHE_DONE;
 }
 
-/* Makes one offer of a handle to `shelf`, and writes the outcome (`enum rrcache_outcome`) to
-   `outcome`. With this call, a caller that decides for itself which data to store, such as a
-   validator, can make only some of the offers of a message. `pick->index` is counted from 0. The
-   shelf must be that of the offer's part, which is the `part` of the name that `rrcache_tell_offer`
-   writes. The call does not check this condition. Returns RRCACHE_NO_OFFERS if the handle has no
-   offer with the number `pick->index`, and RRCACHE_OTHER_SEED if the seed of the shelf is not the
-   seed with which the message was read. Needs the write lock of the shelf. */
+/* Makes to `shelf` one of the offers that a handle holds, and writes the outcome (`enum
+   rrcache_outcome`) to `outcome`. With this call, a caller that decides for itself which data to
+   store, such as a validator, can make only some of the offers of a message. `pick->index` is
+   counted from 0. The shelf must be the shelf of the offer's part. This part is the `part` of the
+   name that `rrcache_tell_offer` writes. The call does not check this condition. Returns
+   RRCACHE_NO_OFFERS if the handle has no offer with the number `pick->index`, and
+   RRCACHE_OTHER_SEED if the seed of the shelf is not the seed with which the message was read.
+   Needs the write lock of the shelf. */
 static inline enum rrcache_status rrcache_offer_one(struct rrcache_shelf *shelf,
                                                     struct rrcache_offers *offers,
                                                     const struct rrcache_offer_pick *pick,
@@ -2129,9 +2130,9 @@ static inline enum rrcache_status rrcache_can_take(const struct rrcache_shelf *s
 
 /* Moves the closed chapters of the shelf, the oldest first, into a handle that holds no chapters,
    and writes the number of these chapters to `count`. `count` is 0 while the shelf does not record.
-   Replies do not change. The call allocates one small block of memory, and the time that it takes
-   does not grow with the number of events. Calls on the chapters then do not need the lock of the
-   shelf. Free the chapters with `rrcache_free_chapters`, even if `count` is 0. Returns
+   Replies do not change. The call allocates one small block of memory. The time that the call takes
+   does not grow with the number of events. Later calls on these chapters do not need the lock of
+   the shelf. Free the chapters with `rrcache_free_chapters`, even if `count` is 0. Returns
    RRCACHE_HAS_CHAPTERS if the handle already holds chapters. Needs the write lock. */
 static inline enum rrcache_status rrcache_take_chapters(struct rrcache_shelf *shelf,
                                                         struct rrcache_chapters *chapters,
