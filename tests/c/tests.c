@@ -776,6 +776,40 @@ static void test_names(void)
            && upper.hash == www.hash);
 }
 
+/* Writes a name of `size` octets, from 3 to 255, whose labels have ever new octets, and the same
+   name with A to Z in lower case. Returns the next octet. */
+static uint8_t fill_names(uint8_t *wire, uint8_t *low, size_t size, uint8_t next)
+{
+    size_t at = 0;
+    while (at < size - 1) {
+        size_t rest = size - 2 - at, label = rest < 63 ? rest : 63;
+        label -= rest - label == 1; /* what is left has to have room for a label */
+        wire[at] = low[at] = (uint8_t)label;
+        for (at++; label > 0; label--, at++, next++) {
+            wire[at] = next;
+            low[at] = next >= 'A' && next <= 'Z' ? (uint8_t)(next - 'A' + 'a') : next;
+        }
+    }
+    wire[at] = low[at] = 0;
+    return next;
+}
+
+/* Only the octets of A to Z change (RFC 4343 section 3), in names of every length, and nothing is
+   left of the name that was made there before, which is shorter and then longer. */
+static void test_folded_octets(void)
+{
+    uint8_t wire[255], low[255], next = 0;
+    struct rrcache_name made = {0}, of_low = {0};
+    for (size_t turn = 0; turn < 2 * (sizeof wire - 2); turn++) {
+        size_t grown = turn + 3, size = grown <= sizeof wire ? grown : 2 * sizeof wire + 1 - grown;
+        next = fill_names(wire, low, size, next);
+        EXPECT(rrcache_make_name(&made, wire, size, PARTED(PARTS)) == RRCACHE_DONE
+               && made.size == size && memcmp(made.octets, low, size) == 0);
+        EXPECT(rrcache_make_name(&of_low, low, size, PARTED(PARTS)) == RRCACHE_DONE
+               && of_low.hash == made.hash && of_low.part == made.part);
+    }
+}
+
 /* A name may be copied, and its own place written over. */
 static void test_copied_names(void)
 {
@@ -5000,6 +5034,7 @@ static void (*const TESTS[])(void) = {
     test_refused_classes,
     test_stale,
     test_names,
+    test_folded_octets,
     test_copied_names,
     test_two_seeds,
     test_names_refused,
