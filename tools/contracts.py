@@ -3,9 +3,10 @@
 """tools/contracts.py [--check]: writes docs/CONTRACTS-LIST.md, the list of all public clauses.
 
 The list is read from the Rattle sources of the library crates. A call is public if the crate's
-lib.rs exports the call or its type. In rrc_c, the C library, a call is public if the object
-file exports it. With --check, nothing is written, and the status is 1 if the list is out of date.
-The sources must have the layout of `rt fmt`, which writes each clause on one line.
+lib.rs exports the call, its type or its trait. In rrc_c, the C library, a call is public if the
+object file exports it. The list begins with all preconditions, each in the words of MEANINGS. With
+--check, nothing is written, and the status is 1 if the list is out of date. The sources must have
+the layout of `rt fmt`, which writes each clause on one line.
 """
 import re
 import sys
@@ -30,18 +31,76 @@ clause has its name, and in parentheses the definitions that it cites
 ([DEFINITIONS.md](DEFINITIONS.md) says in which file they are). A clause without parentheses cites
 only terms of the kit's standard library. What a type owes to a trait, such as `Clone`, is listed
 only if the type's source writes clauses for it.
+
+## Preconditions
+
+Most calls have no precondition. This list has all preconditions. Each has its statement in the
+source, in parentheses, and the calls that require it.
 """
+# What preconditions say: a statement with the old or new value of an argument says the same of it.
+MEANINGS = {
+    "IsWireForm octets": "the octets are the wire form of a name",
+    "1 ≤ parts": "there is at least one part",
+    "parts ≤ 64": "there are at most 64 parts",
+    "part < self": "the part is below the number of parts",
+    "part < count self": "the part is below the number of parts of the cache",
+    "place < length self": "the index is below the length of the list",
+    "chain_fault chapters.items ≡ None": "each chapter continues the one before it",
+    "map image_of_entry (map entry_without_class snapshot.entries) ≡ snapshot.entries":
+        "each entry is the image of a classless entry",
+    "stale ≤ 604800": "max-stale is at most 604,800",
+    "IfSome (option_map held_in failure) IsTimely": "a failure has a timestamp of at most 2^40",
+    "moment ≤ LAST_MOMENT": "the timestamp is at most 2^40",
+    "IfErr made (λ refusal. refusal ≢ Refusal.MomentTooLarge)":
+        "the call was not refused for its timestamp",
+    "IsHashOf hash (ask_in ask).name": "the hash is that of the name",
+    "IsLeanOpen self (ask_in ask).moment":
+        "the event numbers are not spent, and the timestamp is at most 2^40",
+    "IsPick self (ask_in ask) pick": "`judge` would return this pick for the ask",
+    "self.records ≡ false": "the shelf does not record",
+    "AreLasting self": "the part holds no entry that is fully expired at every timestamp",
+    "IsPassOf self pass": "the pass belongs to this table of marks",
+    "IsPassOf self other": "the other pass belongs to this table of marks, too",
+    "0 < pass.view.turns": "the pass has a turn left",
+    "mark < self.marks": "the table has the mark",
+    "Holds pass.view mark": "the pass holds the mark",
+    "0 < turns": "the pass gives away at least one turn",
+    "turns ≤ pass.view.turns": "the pass has as many unused turns as it gives away",
+    "turns < all_turns pass.view": "the pass keeps at least one turn, used or unused",
+    "IsAlone pass.view": "the pass has all turns, used or unused",
+    "pass.view.held ≡ []": "the pass holds no mark",
+    "most < 2 ^ 60": "the maximum number to read is below 2^60",
+    "length word ≤ 4096": "the word has at most 4,096 octets",
+    "has_items put.items ≡ true": "the put has at least one item",
+    "IsLawful line": "the line is lawful, as all lines of a trace are",
+    "All (λ task. task.worker < workers) tasks": "each task names one of the workers",
+    "All (λ task. All (λ operation. operation.part < length wholes) task.operations) tasks":
+        "each operation names one of the parts",
+    "All (λ task. IsNumbered questions task.fate) tasks": "each task names one of the questions",
+}
+# Arguments whose name says nothing that the statement's meaning needs.
+ALIKE = {"wire": "octets", "offer.moment": "moment", "ask.moment": "moment",
+         "fetch.moment": "moment", "self.shelf.part": "self"}
 # An item of `pub use`, the block of a type's functions, the head of a function and a clause of it.
 EXPORT = re.compile(r"^pub use ([\w:]+?)(?:::\{([^}]*)\})?;", re.M)
 MODULE = re.compile(r"^pub mod (\w+);", re.M)
 BLOCK = re.compile(r"^impl(?:<.*?>)? (?:(\w+)(?:<.*>)? for )?&?(?:'\w+ )?(\w+)")
+TRAIT = re.compile(r"^pub trait (\w+)")
 FUNCTION = re.compile(r"^(?:    )?(pub )?(?:const )?(?:unsafe )?(extern \"C\" )?fn (\w+)")
-CLAUSE = re.compile(r"^\s+(requires|ensures) (?:(\w+) )?\{ (.*) \}$")
+CLAUSE = re.compile(r"^\s+(requires|ensures) (?:(\w+) )?\{ (.*) \};?$")
 IMPORT = re.compile(r"ghost use Rattle\.rrc_\w+\.specs\.[\w.]+?\.\{([^}]*)\};")
 
 
+class Clause(NamedTuple):
+    """A clause: its name or None, its statement, and the definitions that it cites."""
+
+    name: str
+    statement: str
+    cited: list
+
+
 class Call(NamedTuple):
-    """A function with its clauses: pairs of a name and the definitions that it cites."""
+    """A function with its clauses."""
 
     file: str
     owner: str
@@ -85,26 +144,29 @@ def cited(statement, definitions):
 
 
 def clauses(lines, definitions):
-    """What a function requires and ensures, from the line behind its head on."""
+    """What a function requires and ensures, from its head on."""
     found = {"requires": [], "ensures": []}
     for line in lines:
         clause = CLAUSE.match(line)
         if clause:
             what, name, statement = clause.groups()
-            found[what].append((name, cited(statement, definitions)))
-        elif line.rstrip().endswith(("{", "{}")):
+            found[what].append(Clause(name, statement, cited(statement, definitions)))
+        if line.rstrip().endswith(("{", "{}", ";")):
             return found
     return found
 
 
 def calls(path, text):
-    """The functions of a source that stand at its top or in a type's block."""
+    """The functions of a source that stand at its top or in the block of a type or a trait."""
     definitions, owner, trait = imported(text), "", None
     lines = text.splitlines()
     for number, line in enumerate(lines):
         block = BLOCK.match(line)
+        declared = TRAIT.match(line)
         if block:
             trait, owner = block.groups()
+        elif declared:
+            trait = owner = declared[1]
         elif line == "}":
             trait, owner = None, ""
         head = FUNCTION.match(line)
@@ -128,19 +190,48 @@ def public_calls(crate):
                 yield call
 
 
+def name_of(call):
+    return f"{call.owner}::{call.name}" if call.owner else call.name
+
+
+def item(text):
+    """An item of a list."""
+    return textwrap.fill(f"- {text}", COLUMNS, subsequent_indent="  ", break_long_words=False,
+                         break_on_hyphens=False)
+
+
 def clause_text(clause):
-    name, definitions = clause
-    told = f"`{name}`" if name else "unnamed"
-    return told + (f" ({', '.join(f'`{it}`' for it in definitions)})" if definitions else "")
+    told = f"`{clause.name}`" if clause.name else "unnamed"
+    return told + (f" ({', '.join(f'`{it}`' for it in clause.cited)})" if clause.cited else "")
 
 
 def line_of(call):
-    name = f"{call.owner}::{call.name}" if call.owner else call.name
     told = [f"*{what}* " + ", ".join(map(clause_text, found))
             for what, found in (("requires", call.requires), ("ensures", call.ensures)) if found]
-    text = f"- `{name}`: " + ("; ".join(told) or "no clause")
-    return textwrap.fill(text, COLUMNS, subsequent_indent="  ", break_long_words=False,
-                         break_on_hyphens=False)
+    return item(f"`{name_of(call)}`: " + ("; ".join(told) or "no clause"))
+
+
+def meaning(statement):
+    """What a precondition says."""
+    plain = re.sub(r"\.(now|old)\b", "", statement)
+    for name, other in ALIKE.items():
+        plain = re.sub(rf"(?<![\w.]){re.escape(name)}\b(?!\.)", other, plain)
+    if plain not in MEANINGS:
+        raise SystemExit(f"tools/contracts.py: MEANINGS lacks the precondition {plain!r}")
+    return MEANINGS[plain]
+
+
+def preconditions():
+    """The preconditions of all crates, each with the calls that require it."""
+    found = {}
+    for crate in crates():
+        for call in public_calls(crate):
+            name = name_of(call) if call.owner else f"{crate}::{call.name}"
+            for clause in call.requires:
+                found.setdefault(meaning(clause.statement), []).append((clause.statement, name))
+    for said, places in found.items():
+        statements = " or ".join(dict.fromkeys(f"`{statement}`" for statement, _ in places))
+        yield item(f"{said} ({statements}): {', '.join(f'`{name}`' for _, name in places)}")
 
 
 def section(crate):
@@ -155,7 +246,8 @@ def section(crate):
 
 
 def text_of_list():
-    return "\n".join([HEAD, *("\n".join(section(it)) + "\n" for it in crates())])
+    return "\n".join([HEAD, *preconditions(), "",
+                      *("\n".join(section(it)) + "\n" for it in crates())])
 
 
 def main(words):

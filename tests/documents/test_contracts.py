@@ -2,7 +2,7 @@
 """The list of contracts, docs/CONTRACTS-LIST.md, which tools/contracts.py writes.
 
 It is up to date, it has the exports that the C header calls and what sources say by hand here, and
-docs/CONTRACTS.md has each call with a precondition in its table.
+it begins with the preconditions of all calls in plain words.
 """
 import re
 from pathlib import Path
@@ -13,7 +13,6 @@ from tools import contracts
 
 TOP = Path(__file__).resolve().parents[2]
 LIST = (TOP / "docs" / "CONTRACTS-LIST.md").read_text()
-TABLE = (TOP / "docs" / "CONTRACTS.md").read_text().partition("## Preconditions")[2]
 HEADER = (TOP / "include" / "rrcache_shelf.h").read_text()
 # What a source says, read by hand.
 SOURCE = """
@@ -46,15 +45,24 @@ impl Clone for Shape {
         Shape { size: self.size }
     }
 }
+
+pub trait Rolls {
+    /// How far it rolls.
+    fn roll(&mut self, size: u64) -> u64
+        requires { size < length self.old }
+        ensures far { result ≡ area size };
+
+    fn stop(&mut self);
+}
 """
 
 
 def entries():
-    """The entries of the list, each in one line, by their crates."""
+    """The entries of the list, each in one line, with the crate or other title above them."""
     for part in LIST.split("\n## ")[1:]:
-        crate, _, text = part.replace("`", "", 2).partition("\n")
+        title, _, text = part.partition("\n")
         for entry in re.findall(r"^- (.*(?:\n  .*)*)", text, re.M):
-            yield crate, re.sub(r"\n  ", " ", entry)
+            yield title.strip("`"), re.sub(r"\n  ", " ", entry)
 
 
 def test_list_is_up_to_date():
@@ -62,11 +70,14 @@ def test_list_is_up_to_date():
 
 
 def test_a_source_by_hand():
-    hidden, ball, clone = contracts.calls("shape.rt", SOURCE)
-    assert not hidden.is_public and not clone.is_public
+    hidden, ball, clone, roll, stop = contracts.calls("shape.rt", SOURCE)
+    assert not hidden.is_public and not clone.is_public and not stop.is_public
     assert ball.is_public and ball.owner == "Shape"
     assert contracts.line_of(ball) == ("- `Shape::ball`: *requires* `some`; *ensures* `round` "
                                        "(`IsRound`), unnamed (`area`)")
+    assert roll.is_public
+    assert contracts.line_of(roll) == ("- `Rolls::roll`: *requires* unnamed; *ensures* `far` "
+                                       "(`area`)")
 
 
 @pytest.mark.parametrize("crate, entry", [
@@ -86,11 +97,26 @@ def test_exports_are_those_of_the_header():
     assert listed == declared
 
 
-def test_preconditions_are_in_the_table():
-    """Every call with a precondition stands in the table, by its last name, and no other call."""
+@pytest.mark.parametrize("item", [
+    "there is at least one part (`1 ≤ parts`): `rrc_name::part_of`, `SharedCache::new`, "
+    "`SharedCache::seeded`",
+    "the pass has a turn left (`0 < pass.old.view.turns`): `Marks::draw`",
+    "the part is below the number of parts of the cache (`part < count self.old`): "
+    "`Calls::sweep_part`, `Calls::close_part`",
+])
+def test_preconditions_by_hand(item):
+    assert item in {entry for title, entry in entries() if title == "Preconditions"}
+
+
+def test_each_call_with_a_precondition_is_among_the_preconditions():
+    """By its last name. No other call is, and each meaning is that of some precondition."""
     listed = {re.search(r"(\w+)`", entry)[1] for _, entry in entries() if "*requires*" in entry}
-    rows = re.findall(r"^\|[^|]*\|([^|]*)\|$", TABLE.partition("\n## ")[0], re.M)
-    named = {it.rpartition("::")[2] for row in rows for it in re.findall(r"`([\w:]+)`", row)}
-    types = {"Part", "LeanPart", "CacheShelf", "SharedCache", "Calls"}
-    crates = {it for it in named if it.startswith("rrc_")}
-    assert named - types - crates == listed
+    items = [entry for title, entry in entries() if title == "Preconditions"]
+    calls = [re.findall(r"`[\w:]*?(\w+)`", entry.rpartition("): ")[2]) for entry in items]
+    assert {name for names in calls for name in names} == listed
+    assert {entry.partition(" (`")[0] for entry in items} == set(contracts.MEANINGS.values())
+
+
+def test_a_precondition_without_a_meaning_is_refused():
+    with pytest.raises(SystemExit, match="MEANINGS lacks the precondition"):
+        contracts.meaning("2 ≤ self.now.turns")
