@@ -7,6 +7,7 @@
 /* A shelf has room for the largest RRsets. */
 enum { SHELF_OCTETS = 4 << 20, MOST_SHELVES = 64 };
 enum { MAX_STALE = 86400, FAILURE_SECONDS = 30 }; /* RFC 8767 section 5, RFC 2308 section 7 */
+enum { RA = 0x80 }; /* in the fourth octet of a message (RFC 1035 section 4.1.1) */
 
 struct rrcache *cache;
 static struct rrcache_parts hashes = {.count = 1};
@@ -115,6 +116,20 @@ static void add_rest(struct reply *reply, uint16_t type, const struct rrcache_na
     reply->rcode = rest->rcode;
 }
 
+/* Whether a response leads to other servers or says nothing, so that another upstream has to be
+   asked (RFC 1034 section 5.3.3). A server that does not serve the name may send NOERROR with
+   neither data nor an SOA record, and with AA and RA clear. An upstream that sets AA or RA knows
+   whether there are data. If the type of the question is not kept, the library cannot tell this, so
+   the kind of the response is the same. */
+static bool answers_nothing(const uint8_t *message, const struct rrcache_summary *summary,
+                            const struct rrcache_answer *answer)
+{
+    bool has_nothing = answer->kind == RRCACHE_MISS && !answer->is_endless;
+    bool is_lame = summary->kind == RRCACHE_RESPONSE_UNUSABLE && summary->rcode == NOERROR
+                   && !summary->aa && (message[3] & RA) == 0;
+    return summary->kind == RRCACHE_RESPONSE_REFERRAL || (is_lame && has_nothing);
+}
+
 /* The limits of the library apply: data live a week at most (RFC 8767 section 4). All queries go to
    the upstreams, so the lowest of different TTLs applies even if AA is clear (RFC 2181 section
    5.2). If memory is refused, a second call may store a part of the response. */
@@ -134,8 +149,8 @@ const struct reply *keep(const struct question *question, const uint8_t *message
     if (status == RRCACHE_MEMORY)
         status = rrcache_store(cache, &query, &response, &report, &answer);
     bool has_no_room = status == RRCACHE_MEMORY || status == RRCACHE_SMALL;
-    bool is_referral = report.summary.kind == RRCACHE_RESPONSE_REFERRAL;
-    if (!has_no_room && (status != RRCACHE_DONE || is_referral))
+    if (!has_no_room
+        && (status != RRCACHE_DONE || answers_nothing(message, &report.summary, &answer)))
         return NULL;
     bool has_data = answer.kind == RRCACHE_FRESH; /* then the cache answers NOERROR, even if the
                                                      RCODE of the response is NXDOMAIN */

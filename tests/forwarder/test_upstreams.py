@@ -10,11 +10,12 @@ import time
 
 import pytest
 from dns.flags import AA, QR, RA, RD, TC
-from dns.rcode import FORMERR, NOERROR, NOTIMP, REFUSED, SERVFAIL
+from dns.rcode import FORMERR, NOERROR, NOTIMP, NXDOMAIN, REFUSED, SERVFAIL
 
-from tests.forwarder.harness import (MOST_SECONDS, Server, address, addresses, ask_for_any, behind,
-                                     counts, data, datagrams, framed, octets_of, plain, query, read,
-                                     response, silent, told, took, truncated, with_id)
+from tests.forwarder.harness import (MOST_SECONDS, SOA, Server, address, addresses, aliases,
+                                     ask_for_any, behind, counts, data, datagrams, framed,
+                                     octets_of, plain, query, read, record, response, silent, told,
+                                     took, truncated, with_id)
 
 FORGED = f"A {address(66)}"
 # The seconds of the first try, which is the shortest.
@@ -244,6 +245,68 @@ def test_referral_upstream(forwarder):
     it = forwarder(Server(told(authority=["example 60 NS ns.example"])), two := Server())
     assert data(it.ask("a1.example")) == [address(1)]
     assert two.times("a1.example") == 1
+
+
+# The authority sections of a server that does not serve a name. It may name the servers of the
+# root, which leads to no zone below that of the upstreams.
+LAME = {"nothing": [], "servers of the root": [". 60 NS a.root-servers.net"]}
+
+
+@pytest.mark.parametrize("authority", LAME.values(), ids=LAME)
+def test_upstream_that_does_not_serve_the_name(forwarder, authority):
+    """NOERROR with neither data nor an SOA record, of one who is no authority and does not recurse,
+    is no answer. The other upstream is asked (RFC 1034 section 5.3.3), and is asked first from then
+    on."""
+    it = forwarder(one := Server(told(authority=authority, flags=0)), two := Server())
+    for n in (1, 2):
+        assert data(it.ask(f"a{n}.example")) == [address(n)]
+    assert (len(one.asked), len(two.asked)) == (1, 2)
+    assert it.counted("sent", "failures") == [3, 0]
+
+
+def test_upstreams_that_all_do_not_serve_the_name(forwarder):
+    """Each is asked once, and then the question has failed, which is remembered."""
+    servers = [Server(told(authority=it, flags=0)) for it in LAME.values()]
+    it = forwarder(*servers)
+    for _ in range(2):
+        reply, seconds = took(it.ask, "a1.example")
+        assert (reply.rcode(), counts(reply)) == (SERVFAIL, [0, 0, 0]) and seconds < 0.7
+    assert [len(server.asked) for server in servers] == [1, 1]
+    assert it.counted("failures") == [1]
+
+
+@pytest.mark.parametrize("rtype", ["A", "NAPTR"])
+@pytest.mark.parametrize("flags", [AA, RA, AA | RA])
+def test_upstream_that_has_no_data(forwarder, flags, rtype):
+    """With AA or RA set that is NODATA also without an SOA record (RFC 2308 section 2.2, type 3),
+    and also of a type that is not kept."""
+    it = forwarder(Server(told(flags=flags)), two := Server())
+    reply = it.ask("a1.example", rtype)
+    assert (reply.rcode(), counts(reply), two.asked) == (NOERROR, [0, 0, 0], [])
+
+
+# What an upstream says: the type, the records of the answer and of the authority, and the RCODE.
+SAID = {
+    "data": ("A", [f"a1.example 60 A {address(1)}"], [], NOERROR),
+    "data of a type that is not kept": (
+        "NAPTR", ['a1.example 60 NAPTR 1 2 "u" "" "!x!y!" rest.a1.example'], [], NOERROR),
+    "an alias": ("A", aliases(["a1.example", "a2.example"]), [], NOERROR),
+    "no data": ("A", [], [SOA], NOERROR),
+    "no data of a type that is not kept": ("NAPTR", [], [SOA], NOERROR),
+    "no such name": ("A", [], [SOA], NXDOMAIN),
+    "no such name, with no SOA record": ("A", [], [], NXDOMAIN),
+}
+
+
+@pytest.mark.parametrize("rtype, answer, authority, rcode", SAID.values(), ids=SAID)
+def test_upstream_that_clears_ra(forwarder, rtype, answer, authority, rcode):
+    """Some forwarders do so, though they recurse. What they say counts all the same."""
+    it = forwarder(one := Server(told(*answer, authority=authority, rcode=rcode, flags=0)),
+                   two := Server())
+    reply = it.ask("a1.example", rtype)
+    assert (reply.rcode(), reply.answer) == (rcode, [record(it) for it in answer])
+    assert reply.authority == [record(it) for it in authority]
+    assert (len(one.asked), two.asked) == (1, [])
 
 
 def test_junk_upstream(forwarder):
