@@ -31,5 +31,6 @@ void tend_fetches(struct fetcher *fetcher, const struct pollfd *polled, uint64_t
    too many queries wait. */
 bool await_fetch(struct fetcher *fetcher, const struct asker *asker);
 
-/* Ends all fetches. The waiting clients get stale data or SERVFAIL. */
+/* Ends all fetches. The waiting clients get stale data or SERVFAIL. The thread that began the
+   fetches makes this call, and its stack needs room for a reply. */
 void free_fetcher(struct fetcher *fetcher);

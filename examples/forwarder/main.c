@@ -134,10 +134,15 @@ static void work_once(struct worker *worker)
         take_messages(worker, i);
 }
 
-static void *work(void *worker)
+/* Works until the process ends. The thread itself ends its fetches, because the stack of the main
+   thread may be too small for a reply. Other threads may still run then, as when a fetch ends at
+   any other time. */
+static void *work(void *of_thread)
 {
+    struct worker *worker = of_thread;
     while (!is_over)
         work_once(worker);
+    free_fetcher(&worker->fetcher);
     return NULL;
 }
 
@@ -186,13 +191,13 @@ static size_t start(size_t threads)
     return started;
 }
 
+/* Ends the threads. Each of them sends its last replies on connections of any thread, so no
+   connection is freed before all threads have ended. */
 static void stop(size_t started)
 {
     is_over = true;
     for (size_t i = 0; i < started; i++)
         pthread_join(workers[i].thread, NULL);
-    for (size_t i = 0; i < started; i++) /* this sends replies on connections of any thread */
-        free_fetcher(&workers[i].fetcher);
     for (size_t i = 0; i < started; i++) {
         free_clients(&workers[i].clients);
         free(workers[i].polled);

@@ -116,6 +116,37 @@ def test_stack_that_is_small(forwarder):
             assert stream.gets_many(3000)
 
 
+# ---- The end.
+
+@under("forwarder")
+@pytest.mark.parametrize("stack", [64, 216])
+def test_stack_that_is_small_at_the_end(forwarder, stack):
+    """Who still waits gets a reply from a thread, whose stack has a size of its own."""
+    it = forwarder(Server(silent), stack=stack)
+    with datagrams(it.port) as client, it.stream() as stream:
+        client.send(octets_of(query("a1.example")))
+        stream.put(query("a2.example"))
+        it.wait_for("queries", 2)
+        it.process.send_signal(signal.SIGTERM)
+        assert read(client.recv(512)).rcode() == stream.read().rcode() == SERVFAIL
+
+
+def test_queries_that_wait_at_the_end(forwarder):
+    """Each thread ends its own fetches while others still run. All who wait get a reply, also on
+    connections of other threads."""
+    it = forwarder(Server(silent), options=("-q", "-t", "4"))
+    with contextlib.ExitStack() as opened:
+        clients = [opened.enter_context(datagrams(it.port)) for _ in range(24)]
+        streams = [opened.enter_context(it.stream()) for _ in range(24)]
+        for n, (client, stream) in enumerate(zip(clients, streams)):
+            client.send(octets_of(query(f"a{n % 6}.example")))
+            stream.put(query(f"a{n % 6}.example"))
+        it.wait_for("queries", 48)
+        it.process.send_signal(signal.SIGTERM)
+        replies = [read(it.recv(512)) for it in clients] + [it.read() for it in streams]
+    assert {it.rcode() for it in replies} == {SERVFAIL}
+
+
 # ---- Places.
 
 def turned_away(clients, seconds):
