@@ -56,6 +56,8 @@ int main(int count, char **words)
         return 2;
     _res.nscount = inet_pton(AF_INET, words[1], &_res.nsaddr_list[0].sin_addr);
     _res.nsaddr_list[0].sin_port = htons(atoi(words[2]));
+    _res.nsaddr_list[0].sin_family = AF_INET; /* otherwise an IPv6 server that resolv.conf names
+                                                 first would be asked */
     for (bool is_found = true; is_found && at < count; at += is_found) {
         size = res_mkquery(0, words[at], 1, 1, NULL, 0, NULL, sent, sizeof sent);
         is_found = size >= 17 && look_up(cache, sent, size);

@@ -1,6 +1,7 @@
 # SPDX-License-Identifier: MIT
 """examples/lookup.c, the example of README.md, on loopback, beside a name server that is made here,
 under the sanitizers of addresses and of undefined behaviour."""
+import os
 import subprocess
 
 import pytest
@@ -8,6 +9,10 @@ from dns.rcode import NXDOMAIN, SERVFAIL
 
 from tests.c.builds import example
 from tests.forwarder.harness import aliases, told
+
+# Runs a program where this file stands in place of the system's list of servers.
+BESIDE = ["unshare", *(["--map-root-user"] if os.geteuid() else []), "--mount", "sh", "-c",
+          'mount --bind "$0" /etc/resolv.conf && exec "$@"']
 
 
 @pytest.fixture(scope="module")
@@ -17,9 +22,10 @@ def program(library, tmp_path_factory):
 
 @pytest.fixture
 def look_up(program, server):
-    """Looks names up, and returns the status, the addresses that are printed and their TTLs."""
-    def look_up(*names):
-        ran = subprocess.run([program, "127.0.0.1", str(server.port), *names], text=True,
+    """Looks names up, and returns the status, the addresses that are printed and their TTLs. The
+    words that run the program may have others before them."""
+    def look_up(*names, before=()):
+        ran = subprocess.run([*before, program, "127.0.0.1", str(server.port), *names], text=True,
                              capture_output=True, timeout=60)
         assert ran.stderr == ""
         words = [line.split(" TTL ") for line in ran.stdout.splitlines()]
@@ -51,6 +57,17 @@ def test_addresses_of_other_lengths(look_up, server):
         return [b"".join([header, server.octets[12:], *records])]
     server.answer = answer
     assert look_up("a.example") == (0, ["192.0.2.9"], [60])
+
+
+@pytest.mark.parametrize("servers", [["::1"], ["::1", "127.0.0.2"], ["127.0.0.2", "::1"], []])
+def test_servers_of_the_system_are_not_asked(servers, look_up, server, tmp_path):
+    """What is asked is the server of the command line."""
+    file = tmp_path / "resolv.conf"
+    file.write_text("".join(f"nameserver {it}\n" for it in servers))
+    if subprocess.run([*BESIDE, file, "true"], capture_output=True).returncode:
+        pytest.skip("the system's list of servers cannot be replaced here (unshare, mount)")
+    assert look_up("a7.example", before=[*BESIDE, file]) == (0, ["192.0.2.7"], [60])
+    assert len(server.asked) == 1
 
 
 @pytest.mark.parametrize("rcode", [NXDOMAIN, SERVFAIL])
