@@ -12,8 +12,9 @@ static struct sockaddr_in here = {.sin_family = AF_INET}, upstream = {.sin_famil
 static struct rrcache *cache;
 
 /* Sends a query upstream, and stores the response. Returns the size of the response, or 0 if there
-   is no response that can be read. Gives up after eight packets that answer other queries, which
-   are an attack. */
+   is no response that can be read. But a truncated response may end inside a record, and is no
+   failure: its header and question are returned. Gives up after eight packets that answer other
+   queries, which are an attack. */
 static size_t ask(struct rrcache_query query, uint8_t *it, struct rrcache_answer *answer)
 {
     static const uint8_t root[1]; /* the zone: upstream answers for all names */
@@ -33,7 +34,12 @@ static size_t ask(struct rrcache_query query, uint8_t *it, struct rrcache_answer
         status = rrcache_store(cache, &query, &response, &report, answer);
     }
     close(peer.fd);
-    return status == RRCACHE_DONE ? response.size : 0;
+    bool is_cut = status == RRCACHE_BAD_MESSAGE && (it[2] & 2) != 0; /* TC is set */
+    if (is_cut) {
+        memset(it + 6, 0, 6); /* no records */
+        response.size = 12 + query.name_size + 4;
+    }
+    return status == RRCACHE_DONE || is_cut ? response.size : 0;
 }
 
 /* Writes an answer as a response, and returns its size. If the answer does not fit, TC is set. */
@@ -76,7 +82,7 @@ static size_t respond(const struct rrcache_query *query, uint8_t *reply)
     if (answer.kind == RRCACHE_MISS && !answer.is_endless)
         came = ask(*query, reply, &answer);
     if (answer.kind == RRCACHE_MISS && came != 0)
-        return came; /* nothing was stored, as with TC set: pass the response on unchanged */
+        return came; /* nothing was stored, as with TC set: pass the response on */
     if (answer.kind == RRCACHE_MISS)
         rrcache_store_failure(cache, &failure, &outcome);
     if (answer.kind == RRCACHE_MISS || answer.kind == RRCACHE_FAILED)

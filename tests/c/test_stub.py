@@ -12,12 +12,12 @@ from pathlib import Path
 
 import dns.rdatatype
 import pytest
-from dns.flags import RD, TC
+from dns.flags import QR, RA, RD, TC
 from dns.rcode import NOERROR, NXDOMAIN, SERVFAIL
 
 from tests.c.builds import example
 from tests.forwarder.harness import (
-    aliases, bound, data, exchange, octets_of, plain, query, response,
+    aliases, bound, counts, data, exchange, octets_of, plain, query, response,
     silent, told, truncated)
 
 # The status of a stub whose port another process has.
@@ -133,6 +133,40 @@ def test_what_leaves_nothing_to_store_goes_on(port, server):
     assert data(exchange(port, query("z.example"))) == ["192.0.2.5"]
 
 
+def cut(flags, left_out):
+    """Answers with an address, without so many octets at the end."""
+    return lambda _, asked, name: [octets_of(response(asked, f"{name} 60 A 192.0.2.66",
+                                                      flags=RA | flags))[:-left_out]]
+
+
+def is_truncated(port, name):
+    """Asks for a name: whether the reply repeats the question, has TC set, and has no records."""
+    asked = query(name)
+    it = exchange(port, asked)
+    return (it.id == asked.id and it.question == asked.question and it.rcode() == NOERROR
+            and it.flags == QR | RD | RA | TC and counts(it) == [0, 0, 0])
+
+
+@pytest.mark.parametrize("left_out", [1, 4, 5, 15, 16])
+def test_a_truncated_response_may_end_inside_a_record(left_out, port, server):
+    """It is ignored, and to be asked for over TCP (RFC 2181 section 9), so it is no failure, and
+    nothing of it is kept. The record has 16 octets, four of which are the address."""
+    server.answer = cut(TC, left_out)
+    for _ in range(2):
+        assert is_truncated(port, "a6.example")
+    server.answer = plain()
+    for _ in range(2):
+        assert data(exchange(port, query("a6.example"))) == ["192.0.2.6"]
+    assert server.times("a6.example") == 3
+
+
+def test_another_response_that_ends_inside_a_record_is_a_failure(port, server):
+    server.answer = cut(0, 1)
+    for _ in range(2):
+        assert exchange(port, query("a6.example")).rcode() == SERVFAIL
+    assert server.times("a6.example") == 1
+
+
 def test_all_types_are_answered_by_upstream(port, server):
     types = [f"TYPE{it}" for it in range(1000, 1024)]
     server.answer = told(*(f"{{}} 60 {it} \\# 1 00" for it in types))
@@ -179,6 +213,6 @@ def test_garbage_from_upstream_is_no_answer(port, server):
     assert exchange(port, query("a5.example")).rcode() == SERVFAIL
     server.answer = lambda _, asked, name: [octets_of(truncated(asked))[:6] + b"\0\1" + bytes(4)
                                             + octets_of(asked)[12:] + b"\xff" * 9]
-    assert exchange(port, query("a6.example")).rcode() == SERVFAIL
+    assert is_truncated(port, "a6.example")
     server.answer = plain()
     assert data(exchange(port, query("a8.example"))) == ["192.0.2.8"]
