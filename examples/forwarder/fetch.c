@@ -1,7 +1,9 @@
 /* SPDX-License-Identifier: MIT */
 /* A fetch asks one upstream after another by UDP, first the one that answered last. All tries have
    one port and one identifier, both random, so an answer that is late for its try still counts. If
-   a response is truncated, the query is sent again over TCP. */
+   a response is truncated, the query is sent again over TCP. A try by UDP after that has another
+   port and identifier, and a query without an OPT record has another identifier, so older answers
+   no longer count. */
 #include "fetch.h"
 
 #include <stdlib.h>
@@ -21,7 +23,7 @@ enum {
     PLAIN_MS = 900000, /* for how long an upstream that does not support OPT records gets none */
     GRACE_MS = 200,    /* for how long a fetch does not give way to another of the same weight */
     MOST_ASKERS = 256, /* the maximum number of queries that wait for a fetch */
-    ASKER_SHARE = 4    /* one client may have at most a fourth of them */
+    ASKER_SHARE = 4    /* over UDP, one client may have at most a fourth of them */
 };
 enum { BUCKETS = 64, BURST = 64, PORT_TRIES = 8, FIRST_PORT = 1024 };
 

@@ -178,6 +178,21 @@ def test_upstreams_that_are_slow(forwarder, count, delay):
     assert it.counted("sent", "strays", "failures") == [2, 0, 0]
 
 
+def test_upstream_that_is_slow_beside_another_over_tcp(forwarder):
+    """The port of the first try is closed before a query goes out over TCP, so an answer to that
+    try no longer counts. The next try has another port and identifier."""
+    seen = set()
+
+    def answer(server, asked, name):
+        seen.add((asked.id, server.client[1]))
+        return plain()(server, asked, name)
+    it = forwarder(Server(answer, delay=1.2),
+                   Server(lambda _, asked, name: [truncated(asked)], tcp=False))
+    reply, seconds = took(it.ask, "a1.example")
+    assert data(reply) == [address(1)] and seconds > 1.9
+    assert [len(set(it)) for it in zip(*seen)] == [2, 2]
+
+
 def test_late_refusal_of_an_upstream(forwarder):
     """What the one says while the other is asked ends nothing, and it is not asked again."""
     it = forwarder(one := Server(told(rcode=REFUSED), delay=1), Server(delay=1.2))
