@@ -1,5 +1,5 @@
 /* SPDX-License-Identifier: MIT */
-/* rrcache.h: the RRset cache of a recursive DNS resolver, shared by all its threads.
+/* rrcache.h: an RRset cache for recursive DNS resolvers, shared by all threads.
 
    `struct rrcache` is a cache that does its own locking. The cache is written in C, on top of the
    shelves (shards) of rrcache_shelf.h. The exported functions of the shelves (`rrc_..`) are proved
@@ -300,8 +300,9 @@ RRCACHE_API void rrcache_close(struct rrcache *cache);
    the question itself has failed recently, this failure has two effects. First, with
    RRCACHE_STALE_IF_FAILED, stale data are acceptable for every name of the chain. Second, in every
    mode, a miss at the end of the chain is RRCACHE_FAILED. The failure has neither effect if the
-   name of the question is an alias whose CNAME record was stored after the failure. docs/RULES.md,
-   "Serving stale data", describes the whole procedure, with the timers.
+   look-up follows a CNAME record of the question's name that was stored after the failure. If both
+   the question and `end` have failed recently, `retry_from` of the answer is the later of the two
+   timestamps. docs/RULES.md, "Serving stale data", describes the whole procedure, with the timers.
 
    CNAME RRsets before a miss are not yet an answer for a client: the resolver has to resolve `end`
    next, and has to answer SERVFAIL if it cannot resolve that name. The cache does not combine

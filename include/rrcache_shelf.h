@@ -1,5 +1,5 @@
 /* SPDX-License-Identifier: MIT */
-/* rrcache_shelf.h: the shelves of the RRset cache of a recursive DNS resolver, for C programs that
+/* rrcache_shelf.h: the shelves of an RRset cache for recursive DNS resolvers, for C programs that
    do their own locking or threading. rrcache.h, which includes this header, provides a cache that
    has its own locks and that threads can share.
 
@@ -1859,8 +1859,8 @@ static inline enum rrcache_status rrcache_can_tell(const struct rrcache_shelf *s
     return RRCACHE_DONE;
 }
 
-/* Looks up the answer to a question, as one event, and moves the entry that gives the answer to the
-   front of the LRU order. The call writes the reply to `told` and to the buffer.
+/* Looks up the answer to a question. The call is one event, and the entry that gives the answer
+   moves to the front of the LRU order. The call writes the reply to `told` and to the buffer.
 
    Returns RRCACHE_BAD_CHOICE if the question has an unknown purpose or mode, RRCACHE_BAD_TYPE if
    its type is 0 or its class is not kept, RRCACHE_BAD_NAME if `name` holds no name, and

@@ -210,13 +210,15 @@ static enum rrcache_status find_failure(struct walk *walk, const struct rrcache_
     return RRCACHE_DONE;
 }
 
-/* Writes the end of the chain to the answer. If that is a miss, the question may have failed. */
+/* Writes the end of the chain to the answer. If that is a miss, the question may have failed too:
+   the answer is then a failure as long as either of the two failures is recent. */
 static void end_walk(const struct walk *walk, const struct rrcache_told *told)
 {
     struct rrcache_answer *answer = walk->answer;
-    bool has_failed = told->kind == RRCACHE_MISS && walk->retry_from != 0;
-    answer->kind = has_failed ? RRCACHE_FAILED : told->kind;
-    answer->retry_from = has_failed ? walk->retry_from : told->retry_from;
+    bool is_miss = told->kind == RRCACHE_MISS || told->kind == RRCACHE_FAILED;
+    bool is_later = is_miss && walk->retry_from > told->retry_from;
+    answer->kind = is_later ? RRCACHE_FAILED : told->kind;
+    answer->retry_from = is_later ? walk->retry_from : told->retry_from;
 }
 
 static enum rrcache_status walk_on(struct walk *walk)

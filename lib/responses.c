@@ -374,7 +374,8 @@ enum rrcache_status tell_answer(const struct rrcache *cache, struct rrcache_offe
     bool may_have_more = answer->kind == RRCACHE_MISS || asked.rtype == ANY;
     if (status == RRCACHE_DONE && has_answer && may_have_more && !answer->is_endless)
         status = answer_from_whole(&said, &asked, &told, answer);
-    may_have_more = answer->kind == RRCACHE_MISS || asked.rtype == ANY;
+    may_have_more =
+        answer->kind == RRCACHE_MISS || (asked.rtype == ANY && answer->kind != RRCACHE_NXDOMAIN);
     if (status == RRCACHE_DONE && has_answer && may_have_more && !answer->is_endless
         && is_unkept(asked.rtype, asked.rclass))
         status = put_rest(&said, &asked, &told, answer);

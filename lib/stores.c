@@ -184,7 +184,8 @@ static enum rrcache_status store_what_fits(struct intake *intake)
         if ((intake->one_by_one >> name.part & 1) == 0)
             continue;
         const struct key key = {&name, told.kind, told.rtype, intake->rclass};
-        bool fits = octets <= intake->cache->most_octets;
+        bool clears = told.entry.ttl == 0 && told.kind != RRCACHE_FAILED; /* and stores nothing */
+        bool fits = clears || octets <= intake->cache->most_octets;
         intake->report.too_large += !fits;
         if (fits)
             status = store_one(intake, index, &key);
@@ -289,8 +290,10 @@ enum rrcache_status rrcache_store_set(struct rrcache *cache, const struct rrcach
         rrcache_make_name(&name, set->owner, set->owner_size, &cache->parts);
     if (status != RRCACHE_DONE)
         return status;
-    if (key_octets(&name, set->owner, set->owner_size, rrcache_data_room(set->data, set->data_size))
-        > cache->most_octets)
+    if (set->ttl != 0 /* else it only clears */
+        && key_octets(&name, set->owner, set->owner_size,
+                      rrcache_data_room(set->data, set->data_size))
+               > cache->most_octets)
         return RRCACHE_TOO_LARGE;
     const struct key key = {&name, RRCACHE_FRESH, set->rtype, set->rclass};
     const struct storing storing = begin_storing(cache, &key, offered.moment);
@@ -315,9 +318,10 @@ enum rrcache_status rrcache_store_negative(struct rrcache *cache,
         rrcache_make_name(&name, negative->name, negative->name_size, &cache->parts);
     if (status != RRCACHE_DONE)
         return status;
-    if (key_octets(&name, negative->soa_owner, negative->soa_owner_size,
-                   RRCACHE_SHARED_OCTETS + rrcache_room(negative->soa_size))
-        > cache->most_octets)
+    if (negative->ttl != 0 /* else it only clears */
+        && key_octets(&name, negative->soa_owner, negative->soa_owner_size,
+                      RRCACHE_SHARED_OCTETS + rrcache_room(negative->soa_size))
+               > cache->most_octets)
         return RRCACHE_TOO_LARGE;
     const struct key key = {&name, (uint32_t)negative->kind, negative->rtype, negative->rclass};
     const struct storing storing = begin_storing(cache, &key, offered.moment);
@@ -416,45 +420,70 @@ static enum rrcache_status forget_type(struct rrcache *cache, const struct rrcac
     return status;
 }
 
-/* Whether an NXDOMAIN of a name governs over what is stored for a type. The later of the two
-   governs, unless the earlier is unexpired and of higher rank (docs/RULES.md). */
-static bool is_hidden(const struct rrcache_stored *stored, uint64_t moment)
+/* Whether an NXDOMAIN or a CNAME record of a name governs over what is stored for a type. The later
+   of the two governs, unless the earlier is unexpired and of higher rank (docs/RULES.md). */
+static bool is_hidden(const struct rrcache_entry *set, const struct rrcache_entry *by,
+                      uint64_t moment)
 {
-    const struct rrcache_entry *set = &stored->set, *nxdomain = &stored->nxdomain;
-    if (set->number > nxdomain->number)
-        return is_unexpired(nxdomain, moment) && nxdomain->trust > set->trust;
-    return !is_unexpired(set, moment) || set->trust <= nxdomain->trust;
+    if (set->number > by->number)
+        return is_unexpired(by, moment) && by->trust > set->trust;
+    return !is_unexpired(set, moment) || set->trust <= by->trust;
 }
 
-/* Forgets the RRset or NODATA of a name, a class and a type, if the NXDOMAIN of the name hides it.
- */
-static enum rrcache_status forget_hidden(struct rrcache *cache, const struct rrcache_name *name,
-                                         const struct rrcache_request *request)
+/* Tells which entry of a name may hide others: its NXDOMAIN, or its CNAME record. The part of the
+   name is taken. */
+static struct rrcache_entry hiding(const struct part *part, const struct rrcache_name *name,
+                                   uint16_t rclass, uint16_t rtype)
+{
+    const struct rrcache_question question = {.rtype = rtype, .rclass = rclass};
+    struct rrcache_stored stored = {0};
+    rrcache_tell_stored(&part->shelf, name, &question, &stored);
+    if (rtype != RRTYPE_CNAME)
+        return stored.nxdomain;
+    return stored.set.kind == RRCACHE_FRESH ? stored.set : (struct rrcache_entry){0};
+}
+
+/* Forgets the RRset or NODATA of a name, a class and a type, if the NXDOMAIN of the name (`by` is
+   ANY) or its CNAME record hides it. */
+static enum rrcache_status forget_if_hidden(struct rrcache *cache, const struct rrcache_name *name,
+                                            const struct rrcache_request *request, uint16_t by)
 {
     struct part *part = &cache->part[name->part];
     const struct rrcache_question question = {.rtype = request->rtype, .rclass = request->rclass};
     uint64_t moment = moment_of(request->moment);
     struct rrcache_stored stored = {0};
     lock_part(cache, part);
+    const struct rrcache_entry other = hiding(part, name, request->rclass, by);
     enum rrcache_status status = rrcache_tell_stored(&part->shelf, name, &question, &stored);
-    if (status == RRCACHE_DONE && stored.nxdomain.kind != 0 && stored.set.kind != 0
-        && is_hidden(&stored, moment))
+    if (status == RRCACHE_DONE && other.kind != 0 && stored.set.kind != 0 && request->rtype != by
+        && is_hidden(&stored.set, &other, moment))
         status = clear(part, request, RRCACHE_NODATA, moment);
     settle(cache, part, moment);
     unlock_part(cache, part);
     return status;
 }
 
-/* Whether a name has an NXDOMAIN. */
-static bool is_denied(struct rrcache *cache, const struct rrcache_name *name, uint16_t rclass)
+static enum rrcache_status forget_denied(struct rrcache *cache, const struct rrcache_name *name,
+                                         const struct rrcache_request *request)
+{
+    return forget_if_hidden(cache, name, request, RRTYPE_ANY);
+}
+
+static enum rrcache_status forget_aliased(struct rrcache *cache, const struct rrcache_name *name,
+                                          const struct rrcache_request *request)
+{
+    return forget_if_hidden(cache, name, request, RRTYPE_CNAME);
+}
+
+/* Whether a name has an NXDOMAIN (ANY) or a CNAME record. */
+static bool may_hide(struct rrcache *cache, const struct rrcache_name *name, uint16_t rclass,
+                     uint16_t rtype)
 {
     struct part *part = &cache->part[name->part];
-    const struct rrcache_question question = {.rtype = RRTYPE_ANY, .rclass = rclass};
-    struct rrcache_stored stored = {0};
     struct place *place = take_place(cache, part);
-    rrcache_tell_stored(&part->shelf, name, &question, &stored);
+    const struct rrcache_entry found = hiding(part, name, rclass, rtype);
     leave_place(part, place);
-    return stored.nxdomain.kind != 0;
+    return found.kind != 0;
 }
 
 /* Checks up to STEP_TYPES types of a name, starting with `next`. Returns whether a part holds
@@ -508,15 +537,23 @@ forget_types(struct rrcache *cache, const struct rrcache_name *name,
 }
 
 /* Forgets all that is held for a name and a class. What an NXDOMAIN hides is removed before the
-   NXDOMAIN, so that no look-up finds it in between. */
+   NXDOMAIN, and what a CNAME record hides before this record, so that no look-up finds it in
+   between. What hides the CNAME record comes after it. */
 static enum rrcache_status forget_name(struct rrcache *cache, const struct rrcache_name *name,
                                        const struct rrcache_request *request)
 {
+    struct rrcache_request alias = *request;
     enum rrcache_status status = RRCACHE_DONE;
-    if (is_denied(cache, name, request->rclass))
-        status = forget_types(cache, name, request, forget_hidden);
+    alias.rtype = RRTYPE_CNAME;
+    if (may_hide(cache, name, request->rclass, RRTYPE_ANY))
+        status = forget_types(cache, name, request, forget_denied);
     if (status == RRCACHE_DONE)
         status = forget_type(cache, name, request); /* with type ANY, only the NXDOMAIN */
+    if (status == RRCACHE_DONE && may_hide(cache, name, request->rclass, RRTYPE_CNAME)) {
+        status = forget_types(cache, name, request, forget_aliased);
+        if (status == RRCACHE_DONE)
+            status = forget_type(cache, name, &alias);
+    }
     if (status == RRCACHE_DONE)
         status = forget_types(cache, name, request, forget_type);
     return status;

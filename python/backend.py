@@ -23,7 +23,7 @@ METADATA = f"""\
 Metadata-Version: 2.1
 Name: rrcache
 Version: {VERSION}
-Summary: The RRset cache of a recursive DNS resolver, over the C library
+Summary: An RRset cache for recursive DNS resolvers, built on the C library
 License: MIT
 Classifier: Topic :: Internet :: Name Service (DNS)
 Classifier: Typing :: Typed

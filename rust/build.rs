@@ -60,7 +60,9 @@ fn installed() -> Option<PathBuf> {
         return None;
     }
     let told = Command::new(&command).args(["--variable=libdir", "rrcache"]).output().ok()?;
-    Some(PathBuf::from(String::from_utf8(told.stdout).ok()?.trim_end()))
+    // pkgconf escapes the spaces in the folder of the .pc file
+    let folder = String::from_utf8(told.stdout).ok()?.trim_end().replace("\\ ", " ");
+    Some(PathBuf::from(folder))
 }
 
 /// Makes cargo link with the library in a folder. The build scripts of crates that depend on this

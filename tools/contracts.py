@@ -35,7 +35,11 @@ only if the type's source writes clauses for it.
 ## Preconditions
 
 Most calls have no precondition. This list has all preconditions. Each has its statement in the
-source, in parentheses, and the calls that require it.
+source, in parentheses, and the calls that require it. In a statement, `x.now` is the value to which
+a shared reference `x` refers, and `x.old` is the value to which a mutable reference `x` refers when
+the call begins. A caller in Rattle also has to meet the invariants of the types of the arguments
+([DEFINITIONS.md](DEFINITIONS.md#what-public-types-show)), and a caller in C the conditions in
+[CONTRACTS.md](CONTRACTS.md#the-c-library-rrc_shelf-rrc_c).
 """
 # What preconditions say: a statement with the old or new value of an argument says the same of it.
 MEANINGS = {
@@ -71,7 +75,7 @@ MEANINGS = {
     "pass.view.held ≡ []": "the pass holds no mark",
     "most < 2 ^ 60": "the maximum number to read is below 2^60",
     "length word ≤ 4096": "the word has at most 4,096 octets",
-    "has_items put.items ≡ true": "the put has at least one item",
+    "has_items put.items ≡ true": "the put has the rdata of at least one record",
     "IsLawful line": "the line is lawful, as all lines of a trace are",
     "All (λ task. task.worker < workers) tasks": "each task names one of the workers",
     "All (λ task. All (λ operation. operation.part < length wholes) task.operations) tasks":

@@ -16,8 +16,8 @@ __all__ = ["EXAMPLES", "calls", "command_pages", "pages"]
 TOP = Path(__file__).resolve().parent.parent
 # What the page of each header is about.
 ABOUT = {
-    "rrcache": "the RRset cache of a recursive DNS resolver",
-    "rrcache_shelf": "the shelves of the RRset cache of a recursive DNS resolver",
+    "rrcache": "an RRset cache for recursive DNS resolvers",
+    "rrcache_shelf": "the shelves of an RRset cache for recursive DNS resolvers",
 }
 HEADERS = {name: (TOP / "include" / f"{name}.h").read_text() for name in ABOUT}
 # Each group of calls of a header: their names without rrcache_, and what its page is about.

@@ -14,7 +14,7 @@ from .asking import KINDS, data_of, entry_of, new
 from .choices import Class, Kind
 from .handles import refused
 from .library import library
-from .names import to_text, to_wire
+from .names import NAME_MOST, to_text, to_wire
 from .parts import NAMES_MOST, OCTETS_AT, AnyName, Name
 from .refusals import Status
 from .replies import OfKind, StoredEntry
@@ -125,6 +125,8 @@ def place_of(name: AnyName) -> tuple[int, int, Any]:
     """Returns the same as `place_of_wire`, for a name in any form."""
     if isinstance(name, Name):
         return addressof(name._made) + OCTETS_AT, name._made.size, name
+    if isinstance(name, bytes) and len(name) > NAME_MOST:
+        return place_of_wire.__wrapped__(name)  # not cached: the library refuses it
     return place_of_wire(name)
 
 

@@ -3,6 +3,8 @@
 from __future__ import annotations
 
 import itertools
+import os
+from collections.abc import Callable
 from ctypes import Structure, byref, c_char_p, c_void_p, cast
 from typing import Any, TypeVar
 
@@ -17,12 +19,14 @@ T = TypeVar("T", bound=Structure)
 class Handle(c_void_p):
     """A pointer to a `struct rrcache`. The cache is closed when the last reference to this object
     is gone. Each call holds such a reference, so no thread closes a cache while another thread is
-    in a call on the cache."""
+    in a call on the cache. In a forked child, the cache is not closed: another thread of the parent
+    may have been in a call."""
 
     close: Any = None
+    process = 0
 
-    def __del__(self) -> None:
-        if self.value:
+    def __del__(self, getpid: Callable[[], int] = os.getpid) -> None:
+        if self.value and self.process == getpid():
             self.close(self)
 
 
@@ -57,6 +61,6 @@ def opened(config: structs.Config) -> Handle:
     """Opens a cache, and returns its handle. The handler of a signal may raise an exception as soon
     as the library has opened the cache, so the handle can close the cache even then."""
     handle = Handle()
-    handle.close = library().rrcache_close
+    handle.close, handle.process = library().rrcache_close, os.getpid()
     done(library().rrcache_open(byref(handle), config))
     return handle

@@ -5,6 +5,7 @@ from __future__ import annotations
 
 import functools
 import os
+from collections.abc import Callable
 from ctypes import (CDLL, CFUNCTYPE, POINTER, Structure, byref, c_bool, c_char_p, c_int, c_size_t,
                     c_uint32, c_uint64, c_void_p)
 from pathlib import Path
@@ -176,12 +177,14 @@ class Closing:
 
 class Held(Closing):
     """An object of the library behind a handle. The handle is initialized to zeros, which means
-    that it holds nothing."""
+    that it holds nothing. A forked child frees such an object only if it calls `close`: another
+    thread of the parent may have been in a call."""
 
     _kind: ClassVar[type[Structure]]
     _freed_by: ClassVar[str]
 
     def __init__(self) -> None:
+        self._process = os.getpid()
         self._handle: Any = self._kind()
 
     def close(self) -> None:
@@ -189,8 +192,8 @@ class Held(Closing):
         if self._handle.is_live:
             call(self._freed_by, self._handle)
 
-    def __del__(self) -> None:
-        if hasattr(self, "_handle"):
+    def __del__(self, getpid: Callable[[], int] = os.getpid) -> None:
+        if hasattr(self, "_handle") and self._process == getpid():
             self.close()
 
     def __reduce__(self) -> NoReturn:

@@ -237,7 +237,8 @@ class SharedCache(Closing):
         of them even if AA is clear. With `clears_denied`, an authoritative NXDOMAIN clears the data
         of the denied name for the types A, AAAA and CNAME and for the type of the question.
         `with_dnames` affects `answer` as it does in `lookup`. If `Memory` is raised, some data may
-        have been stored, and `counts` of the exception counts them.
+        have been stored, and `counts` of the exception counts them. `BadData`, raised if a
+        record whose type is not kept cannot be read, comes only after everything has been stored.
 
         >>> from rrcache import ParsedSet, compose_response
         >>> query = Query("www.example.", 1, id=0x1234)

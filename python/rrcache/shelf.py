@@ -13,9 +13,8 @@ from .asking import answered, stored_under
 from .choices import Class, Kind, Mode, Outcome, Purpose, Trust
 from .history import Chapter, read_archive
 from .library import Held, call, library, seed_of, sized, told
-from .names import to_wire
 from .offers import Offers, terms
-from .parts import AnyName, Name, Parts, names_under
+from .parts import AnyName, Name, Parts, names_under, wire_form
 from .refusals import Status, refusal
 from .replies import Counts, Limits, Reply, Sizes, Stored, Swept, Trimmed
 
@@ -110,7 +109,7 @@ class Shelf(Held):
             raise refusal(status, told_counts)
         return told_counts
 
-    def offer_message_unchecked(self, message: bytes, zone: str | bytes, moment: int,
+    def offer_message_unchecked(self, message: bytes, zone: AnyName, moment: int,
                                 limits: Limits = Limits(), line: int = 0) -> Counts:
         """Offers all data of a response that are in bailiwick, which means at or below the zone.
         Unlike `read_response`, this call does not compare the response with a query. The caller
@@ -124,10 +123,10 @@ class Shelf(Held):
         ...     shelf.offer_message_unchecked(response, "example.", moment=1000)
         Counts(kept=1, cleared=0, outranked=0)
         """
-        return self._offer("rrc_offer_message_unchecked", *sized(message), *sized(to_wire(zone)),
+        return self._offer("rrc_offer_message_unchecked", *sized(message), *sized(wire_form(zone)),
                            terms(moment, limits, line))
 
-    def offer_part_unchecked(self, message: bytes, zone: str | bytes, parts: Parts, part: int,
+    def offer_part_unchecked(self, message: bytes, zone: AnyName, parts: Parts, part: int,
                              moment: int, limits: Limits = Limits(), line: int = 0) -> Counts:
         """Offers what `offer_message_unchecked` offers, but only the data of names in one part
         (shelf), counted from 0. Raises `BadRules` if there is no such part.
@@ -141,7 +140,7 @@ class Shelf(Held):
         ...         counts = shelf.offer_part_unchecked(response, "example.", parts, part, 1000)
         ...         assert counts.kept == (part == make_name("www.example.", parts).part)
         """
-        return self._offer("rrc_offer_part_unchecked", *sized(message), *sized(to_wire(zone)),
+        return self._offer("rrc_offer_part_unchecked", *sized(message), *sized(wire_form(zone)),
                            terms(moment, limits, line, parts, part))
 
     def offer_read(self, offers: Offers, part: int, line: int = 0) -> Counts:
@@ -181,7 +180,7 @@ class Shelf(Held):
         pick = structs.fill(structs.OfferPick(), index, line)
         return Outcome(told("rrc_offer_one", c_uint32, self._handle, offers._handle, pick))
 
-    def offer_set(self, owner: str | bytes, rtype: int, trust: Trust | int, ttl: int,
+    def offer_set(self, owner: AnyName, rtype: int, trust: Trust | int, ttl: int,
                   data: Iterable[bytes], moment: int, line: int = 0,
                   rclass: Class | int = Class.IN) -> Outcome:
         """Offers an RRset. `data` are rdata without compressed names. With the highest rank and
@@ -197,11 +196,11 @@ class Shelf(Held):
         """
         octets = with_lengths(data)
         numbers = structs.fill(structs.SetTerms(), moment, line, ttl, trust, rtype, rclass)
-        return Outcome(told("rrc_offer_set", c_uint32, self._handle, *sized(to_wire(owner)),
+        return Outcome(told("rrc_offer_set", c_uint32, self._handle, *sized(wire_form(owner)),
                             numbers, *sized(octets)))
 
-    def offer_negative(self, name: str | bytes, rtype: int, kind: Kind | int, trust: Trust | int,
-                       ttl: int, soa_owner: str | bytes, soa: bytes, moment: int, line: int = 0,
+    def offer_negative(self, name: AnyName, rtype: int, kind: Kind | int, trust: Trust | int,
+                       ttl: int, soa_owner: AnyName, soa: bytes, moment: int, line: int = 0,
                        rclass: Class | int = Class.IN) -> Outcome:
         """Offers a negative answer with its SOA record (RFC 2308): the name has no data of the type
         (`kind` NODATA), or does not exist (NXDOMAIN, which ignores `rtype`). Raises `BadName`,
@@ -217,10 +216,10 @@ class Shelf(Held):
         """
         numbers = structs.fill(structs.NegativeTerms(), moment, line, ttl, trust, kind, rtype,
                                rclass)
-        return Outcome(told("rrc_offer_negative", c_uint32, self._handle, *sized(to_wire(name)),
-                            numbers, *sized(to_wire(soa_owner)), *sized(soa)))
+        return Outcome(told("rrc_offer_negative", c_uint32, self._handle, *sized(wire_form(name)),
+                            numbers, *sized(wire_form(soa_owner)), *sized(soa)))
 
-    def offer_failure(self, name: str | bytes, rtype: int, ttl: int, moment: int, line: int = 0,
+    def offer_failure(self, name: AnyName, rtype: int, ttl: int, moment: int, line: int = 0,
                       rclass: Class | int = Class.IN) -> Outcome:
         """Offers a resolution failure of a name and type for `ttl` seconds (RFC 9520). With `ttl`
         0, a stored failure of this name and type ends. Raises `BadName`, `BadType` or `WrongBody`.
@@ -232,7 +231,7 @@ class Shelf(Held):
         ('FAILED', 1030)
         """
         numbers = structs.fill(structs.FailureTerms(), moment, line, ttl, rtype, rclass)
-        return Outcome(told("rrc_offer_failure", c_uint32, self._handle, *sized(to_wire(name)),
+        return Outcome(told("rrc_offer_failure", c_uint32, self._handle, *sized(wire_form(name)),
                             numbers))
 
     # ---- asks
@@ -278,6 +277,7 @@ class Shelf(Held):
 
         Raises the exceptions of `ask`.
 
+        >>> from rrcache import to_wire
         >>> with Shelf() as shelf:
         ...     _ = shelf.offer_set("www.example.", 5, Trust.AUTHORITATIVE_ANSWER, 60,
         ...                         [to_wire("a.example.")], moment=1000)

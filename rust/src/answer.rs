@@ -291,13 +291,26 @@ impl<'a> Rrset<'a> {
     }
 }
 
+/// Returns a name in presentation format. In a zone file, more characters have a special meaning
+/// than in the text of a name (RFC 1035 section 5.1).
+fn presented(name: &Name) -> String {
+    let mut text = String::new();
+    for letter in name.to_string().chars() {
+        if "\"$();@".contains(letter) {
+            text.push('\\');
+        }
+        text.push(letter);
+    }
+    text
+}
+
 /// Writes the records in presentation format, one record on each line. The rdata of every type are
 /// written in hexadecimal (RFC 3597 section 5): `www.example. 50 IN A \# 4 c0000201`.
 impl fmt::Display for Rrset<'_> {
     fn fmt(&self, f: &mut fmt::Formatter<'_>) -> fmt::Result {
+        let (owner, ttl, class, rtype) = (presented(&self.owner), self.ttl, self.class, self.rtype);
         for (number, datum) in self.data.clone().enumerate() {
             let begin = if number == 0 { "" } else { "\n" };
-            let (owner, ttl, class, rtype) = (&self.owner, self.ttl, self.class, self.rtype);
             write!(f, "{begin}{owner} {ttl} {class} {rtype} \\# {}", datum.len())?;
             for (number, octet) in datum.iter().enumerate() {
                 write!(f, "{}{octet:02x}", if number == 0 { " " } else { "" })?;

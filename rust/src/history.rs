@@ -79,8 +79,8 @@ impl Cache {
         check(unsafe { ffi::rrcache_record_all(self.raw()) })
     }
 
-    /// Stops recording, and writes the archive (the text of the history) of each shelf, one shelf
-    /// after another. If nothing is being recorded, nothing is written.
+    /// Stops recording, writes the archive (the text of the history) of each shelf, one shelf after
+    /// another, and flushes the writer. If nothing is being recorded, nothing is written.
     ///
     /// Returns the error of the writer unchanged, and an error of the library as an [`Error`] in an
     /// [`io::Error`]. After any error, the histories that were not written are dropped. The writer
@@ -98,7 +98,8 @@ impl Cache {
     /// # Ok::<(), Box<dyn std::error::Error>>(())
     /// ```
     pub fn stop_recording(&self, mut writer: impl Write) -> io::Result<()> {
-        self.stop_recording_by(|_, octets| writer.write_all(octets))
+        self.stop_recording_by(|_, octets| writer.write_all(octets))?;
+        writer.flush()
     }
 
     /// Stops recording as [`stop_recording`](Cache::stop_recording) does, but calls `write` with
@@ -111,8 +112,8 @@ impl Cache {
     }
 
     /// Writes the contents of each shelf, one shelf after another, in the form in which a chapter
-    /// of an archive begins (`docs/FORMATS.md`). The text of a shelf shows its contents at one
-    /// point in time.
+    /// of an archive begins (`docs/FORMATS.md`), and flushes the writer. The text of a shelf shows
+    /// its contents at one point in time.
     ///
     /// Returns the error of the writer unchanged, and an error of the library as an [`Error`] in an
     /// [`io::Error`]: [`HasChapters`](Error::HasChapters) while histories are being recorded. The
@@ -129,7 +130,8 @@ impl Cache {
     /// # Ok::<(), Box<dyn std::error::Error>>(())
     /// ```
     pub fn dump(&self, mut writer: impl Write) -> io::Result<()> {
-        self.dump_by(|_, octets| writer.write_all(octets))
+        self.dump_by(|_, octets| writer.write_all(octets))?;
+        writer.flush()
     }
 
     /// Writes the contents as [`dump`](Cache::dump) does, but calls `write` with each piece of the

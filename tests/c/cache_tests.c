@@ -798,6 +798,26 @@ static void test_failed(void)
     rrcache_close(cache);
 }
 
+/* If both the question and the name at the end of its chain have failed, the answer is a failure
+   until the later of the two is over. */
+static void test_failures_of_a_question_and_of_its_end(void)
+{
+    static const uint32_t ENDS[] = {5, 40, 50};
+    for (size_t i = 0; i < sizeof ENDS / sizeof *ENDS; i++) {
+        struct rrcache *cache = open_small();
+        uint64_t last = FIRST + (ENDS[i] > 40 ? ENDS[i] : 40);
+        EXPECT(keep_alias(cache, "www.example", "end.example", 600) == RRCACHE_KEPT
+               && fail(cache, "www.example", 40, FIRST) == RRCACHE_KEPT
+               && fail(cache, "end.example", ENDS[i], FIRST) == RRCACHE_KEPT);
+        for (uint64_t moment = FIRST; moment <= last; moment++) {
+            struct rrcache_answer answer = look(cache, "www.example", A, moment);
+            EXPECT(moment == last ? is_miss(&answer, 1, "end.example")
+                                  : answer.kind == RRCACHE_FAILED && answer.retry_from == last);
+        }
+        rrcache_close(cache);
+    }
+}
+
 static void test_cases(void)
 {
     struct rrcache *cache = open_small();
@@ -1905,6 +1925,12 @@ static void test_absence_of_types_that_are_not_kept(void)
     add(&message, RRCACHE_AUTHORITY_SECTION, "example", SOA, 300, OF(SOA_DATA));
     store(cache, &message, "a.example", RRSIG, &answer);
     EXPECT(is_denial(&answer, RRCACHE_NXDOMAIN, 60));
+    /* With type ANY, a name that does not exist has no records either, whatever a server adds. */
+    begin(&message, AA | NXDOMAIN, "a.example", ANY);
+    add(&message, RRCACHE_ANSWER_SECTION, "a.example", RRSIG, 60, OF(ADDRESS));
+    add(&message, RRCACHE_AUTHORITY_SECTION, "example", SOA, 300, OF(SOA_DATA));
+    store(cache, &message, "a.example", ANY, &answer);
+    EXPECT(is_denial(&answer, RRCACHE_NXDOMAIN, 60));
     rrcache_close(cache);
 }
 
@@ -2728,6 +2754,44 @@ static void test_own_too_large(void)
     outcome = 7;
     EXPECT(rrcache_store_negative(cache, &negative, &outcome) == RRCACHE_TOO_LARGE && outcome == 7
            && keys(cache) == 2);
+    rrcache_close(cache);
+}
+
+/* Data with TTL 0 take no room: they clear what is held, whatever their size (RFC 1035 section
+   3.2.1: they are not to be cached). */
+static void test_too_large_with_ttl_0(void)
+{
+    static struct message message;
+    struct rrcache *cache = open_least();
+    struct rrcache_answer answer;
+    uint8_t data[6 * 15], soa[532] = {0};
+    uint32_t outcome = 7;
+    struct wire wire = wire_of("www.example"), name = long_name();
+    EXPECT(keep(cache, "www.example", 600) == RRCACHE_KEPT && keys(cache) == 1);
+    begin(&message, AA, "www.example", A);
+    for (uint8_t i = 0; i < 15; i++)
+        add(&message, RRCACHE_ANSWER_SECTION, "www.example", A, 0, (uint8_t[]){10, 0, 0, i}, 4);
+    struct rrcache_report report = store(cache, &message, "www.example", A, &answer);
+    struct rrcache_rrset rrset = nth(&answer, 0);
+    EXPECT(report.counts.cleared == 1 && report.too_large == 0 && keys(cache) == 0);
+    EXPECT(answer.kind == RRCACHE_FRESH && count_of(&answer) == 1
+           && is_rrset(&rrset, "www.example", A, 0, RRCACHE_FRESH));
+
+    struct rrcache_set set = set_of(&wire, A, 0, data, addresses(data, 15));
+    EXPECT(keep(cache, "www.example", 600) == RRCACHE_KEPT
+           && rrcache_store_set(cache, &set, &outcome) == RRCACHE_DONE && outcome == RRCACHE_CLEARED
+           && keys(cache) == 0);
+    struct rrcache_negative negative = negative_of(&wire, RRCACHE_NODATA, 0);
+    memcpy(soa, name.octets, name.size);
+    memcpy(soa + name.size, name.octets, name.size);
+    negative.soa_owner = name.octets;
+    negative.soa_owner_size = name.size;
+    negative.soa = soa;
+    negative.soa_size = 2 * name.size + 20;
+    outcome = 7;
+    EXPECT(keep(cache, "www.example", 600) == RRCACHE_KEPT
+           && rrcache_store_negative(cache, &negative, &outcome) == RRCACHE_DONE
+           && outcome == RRCACHE_CLEARED && keys(cache) == 0);
     rrcache_close(cache);
 }
 
@@ -4087,6 +4151,7 @@ static void (*const TESTS[])(void) = {
     test_stale_alias_over_an_address,
     test_failed_alias_over_fresh_data,
     test_failed,
+    test_failures_of_a_question_and_of_its_end,
     test_cases,
     test_glue,
     test_small_buffers,
@@ -4150,6 +4215,7 @@ static void (*const TESTS[])(void) = {
     test_just_large_enough,
     test_compressed_too_large,
     test_own_too_large,
+    test_too_large_with_ttl_0,
     test_octets,
     test_octets_of_responses,
     test_own_sets,

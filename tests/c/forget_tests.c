@@ -252,6 +252,51 @@ static void test_that_data_of_higher_rank_stay_until_they_go(void)
     rrcache_close(cache);
 }
 
+/* Stores a CNAME record of the name, which leads to the root. */
+static void keep_cname(struct rrcache *cache, uint64_t moment)
+{
+    struct rrcache_set set = plain_set(OF(NAME), CNAME, 3600, OF(ROOT));
+    set.moment = moment;
+    EXPECT(store_set(cache, set) == RRCACHE_KEPT);
+}
+
+/* What a CNAME record has replaced stays hidden too (RFC 1034 section 3.6.2: there are no other
+   data beside it): each look-up in between misses, at its target or at the name. */
+static void test_that_nothing_that_an_alias_replaced_comes_back(void)
+{
+    struct rrcache *cache = open_cache(64);
+    keep_types(cache);
+    keep_cname(cache, NOW);
+    EXPECT(look(cache, NAME, sizeof NAME, A).aliases == 1);
+    expect_of_types(cache, RRCACHE_MISS);
+    forget_watched(cache);
+    EXPECT(told[RRCACHE_FRESH] == 0 && told[RRCACHE_STALE] == 0 && told[RRCACHE_NODATA] == 0
+           && told[RRCACHE_MISS] >= (TYPES_COUNT + 1) * TYPES_COUNT);
+    rrcache_close(cache);
+}
+
+static unsigned followed;
+
+static void look_up_newer(struct rrcache *cache)
+{
+    struct rrcache_answer answer = look(cache, NAME, sizeof NAME, A);
+    told[answer.kind]++;
+    followed += (unsigned)answer.aliases;
+}
+
+/* A CNAME record that newer data have replaced goes before these, so no look-up follows it. */
+static void test_that_an_alias_that_was_replaced_is_not_followed(void)
+{
+    struct rrcache *cache = open_cache(64);
+    keep_cname(cache, FIRST);
+    keep(cache, A, 3600, NOW);
+    EXPECT(kind_of(cache, A) == RRCACHE_FRESH);
+    followed = 0;
+    EXPECT(forget_among(cache, look_up_newer).keys == 0);
+    EXPECT(told[RRCACHE_FRESH] > 0 && told[RRCACHE_MISS] > 0 && followed == 0);
+    rrcache_close(cache);
+}
+
 /* What is forgotten makes room at once. So a key that is stored between two steps, in a shelf that
    was full, evicts nothing. If it counted as an eviction, an alias that is held would be taken for
    evicted (`renew_owners`), and look-ups would not find it. */
@@ -277,6 +322,8 @@ int main(void)
     test_that_newer_data_stay_until_they_go();
     test_that_nothing_of_lower_rank_comes_out();
     test_that_data_of_higher_rank_stay_until_they_go();
+    test_that_nothing_that_an_alias_replaced_comes_back();
+    test_that_an_alias_that_was_replaced_is_not_followed();
     test_that_there_is_room_between();
     return told_status();
 }

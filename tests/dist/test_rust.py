@@ -6,6 +6,7 @@ import subprocess
 import dns.message
 import dns.query
 
+from tests.install.places import said
 from tests.rust.test_rust import pytestmark  # noqa: F401
 
 
@@ -23,3 +24,14 @@ def test_example(crate, unpacked):
         finally:
             answering.terminate()
     assert [it.to_text() for rrset in answer for it in rrset] == ["192.0.2.1"]
+
+
+def test_folder_with_a_space(crate, unpacked, tmp_path):
+    """pkg-config writes such a folder with a backslash."""
+    folder = tmp_path / "a folder"
+    said("cp", "-a", unpacked, folder)
+    around = {**os.environ, "PKG_CONFIG_PATH": f"{folder}/lib/pkgconfig",
+              "CARGO_TARGET_DIR": str(tmp_path / "target")}
+    ran = subprocess.run(["cargo", "run", "--offline", "--quiet", "--example", "first"], cwd=crate,
+                         env=around, capture_output=True, text=True)
+    assert (ran.returncode, ran.stderr) == (0, "")

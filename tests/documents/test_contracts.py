@@ -12,7 +12,8 @@ import pytest
 from tools import contracts
 
 TOP = Path(__file__).resolve().parents[2]
-LIST = (TOP / "docs" / "CONTRACTS-LIST.md").read_text()
+LIST, DEFINITIONS = ((TOP / "docs" / f"{it}.md").read_text()
+                     for it in ("CONTRACTS-LIST", "DEFINITIONS"))
 HEADER = (TOP / "include" / "rrcache_shelf.h").read_text()
 # What a source says, read by hand.
 SOURCE = """
@@ -120,3 +121,17 @@ def test_each_call_with_a_precondition_is_among_the_preconditions():
 def test_a_precondition_without_a_meaning_is_refused():
     with pytest.raises(SystemExit, match="MEANINGS lacks the precondition"):
         contracts.meaning("2 ≤ self.now.turns")
+
+
+def test_each_definition_that_a_contract_cites_is_in_a_file_of_the_definitions():
+    """By the imports of each source. What stands below `declared` is a type of the code."""
+    imports = re.compile(r"ghost use Rattle\.(rrc_\w+)\.specs\.([\w.]+?)\.\{([^}]*)\};")
+    missing = set()
+    for crate in contracts.crates():
+        for call in contracts.public_calls(crate):
+            text = (TOP / "crates" / crate / "src" / call.file).read_text()
+            places = {name.strip(): f"{it[1]}/specs/{it[2].replace('.', '/')}.antt"
+                      for it in imports.finditer(text) for name in it[3].split(",")}
+            cited = {name for clause in call.requires + call.ensures for name in clause.cited}
+            missing |= {places[name] for name in cited if f"`{places[name]}`" not in DEFINITIONS}
+    assert {it for it in missing if "/declared/" not in it} == set()

@@ -62,7 +62,7 @@ class Place:
     paths of rrcache.pc, if that is another one."""
 
     def __init__(self, prefix, lib="lib", root=None):
-        self.prefix, self.lib = prefix, prefix / lib
+        self.prefix, self.lib, self.root = prefix, prefix / lib, root
         self.around = {"PKG_CONFIG_LIBDIR": f"{self.lib}/pkgconfig"}
         if root:
             self.around["PKG_CONFIG_SYSROOT_DIR"] = str(root)
@@ -75,11 +75,11 @@ class Place:
         return shlex.split(self.told("--cflags", "--libs", *words))
 
     def linked(self, linkage):
-        """The words that link with the shared library or with the archive."""
+        """The words that link with the shared library or with the archive, as in PACKAGES.md."""
         if linkage == "shared":
             return self.flags()
-        words = [word for word in self.flags("--static") if word != "-lrrcache"]
-        return [*words, self.lib / "librrcache.a"]
+        [folder] = [self.lib] if self.root else shlex.split(self.told("--variable=libdir"))
+        return [*shlex.split(self.told("--cflags")), f"{folder}/librrcache.a", "-pthread"]
 
     def header(self, name):
         return (self.prefix / "include" / f"{name}.h").read_text()

@@ -53,6 +53,17 @@ def kinds(cache, name, moment, rtype=A):
 
 # ---- Look-ups.
 
+def test_octets_that_are_too_long_for_a_name_are_not_remembered():
+    """A caller may hand a packet's octets on unread: what is remembered of names stays small."""
+    remembered = rrcache.answers.place_of_wire
+    with opened() as cache:
+        before = remembered.cache_info()
+        for size in 255, 256, 65_535:
+            with pytest.raises(rrcache.BadName):
+                cache.lookup(b"\1a" * (size // 2) + b"\0" * (size % 2 + 1), A, 100)
+        assert remembered.cache_info().currsize == before.currsize
+
+
 @pytest.mark.parametrize("name", [
     "WWW.example", "www.example.", wire_name("www.EXAMPLE"),
     rrcache.make_name("www.example", rrcache.Parts(7, bytes(range(1, 17))))])

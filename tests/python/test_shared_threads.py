@@ -2,6 +2,8 @@
 """A cache that threads share, from threads of Python: each reply is checked, calls overlap, and a
 cache may be closed meanwhile. How long a look-up takes is compared with one of a `Cache`."""
 import gc
+import subprocess
+import sys
 import threading
 import time
 import weakref
@@ -186,3 +188,35 @@ def test_chains_of_a_shared_cache_and_of_a_cache():
         assert rrsets == [(it.owner, it.rtype, it.left, it.data)
                           for it in other.follow(names[0], A, 110)]
         assert rrsets[0] == (wire_name(names[0]), CNAME, 50, (wire_name(names[1]),))
+
+
+FORKED = """
+import os
+import rrcache
+
+closed = []
+
+
+class Shelf(rrcache.Shelf):
+    def close(self):
+        closed.append("shelf")
+        super().close()
+
+
+shelf, cache = Shelf(), rrcache.SharedCache()
+handle, close = cache._handle, cache._handle.close
+handle.close = lambda it: closed.append("cache") or close(it)
+del handle
+child = os.fork()
+del shelf, cache
+if not child:
+    os._exit(len(closed))
+print(os.waitpid(child, 0)[1], *closed)
+"""
+
+
+def test_a_forked_child_frees_nothing():
+    """A thread of the parent may have been in a call as it forked: what the child has is torn."""
+    told = subprocess.run([sys.executable, "-c", FORKED], capture_output=True, text=True,
+                          check=True, timeout=60)
+    assert (told.stdout, told.stderr) == ("0 shelf cache\n", "")

@@ -364,6 +364,24 @@ def test_names_that_were_made():
             assert shelf.stored(name, A).set.ttl == 60
 
 
+def test_offers_by_names_that_were_made():
+    """Of any seed: an offer takes the octets of the name, which are in lower case."""
+    name, zone, seed = (rrcache.make_name(it, rrcache.Parts(64, SEED[::-1]))
+                        for it in ("WWW.example.", "Example.", "example."))
+    response = rrcache.compose_response(rrcache.Query("www.example.", TXT, id=0),
+                                        [rrcache.ParsedSet("www.example.", TXT, 60, [b"\1x"])])
+    with rrcache.Shelf(seed=SEED) as shelf:
+        assert shelf.offer_set(name, A, HIGH, 60, [ADDRESS], 100).name == "KEPT"
+        assert shelf.offer_negative(name, AAAA, Kind.NODATA, HIGH, 60, zone, bytes(22),
+                                    100).name == "KEPT"
+        assert shelf.offer_failure(name, CNAME, 60, 100).name == "KEPT"
+        assert shelf.offer_message_unchecked(response, seed, 100).kept == 1
+        assert shelf.peek("www.example.", A, 110).owner_text == "www.example."
+        assert shelf.peek("www.example.", AAAA, 110).owner_text == "example."
+        assert shelf.peek("www.example.", CNAME, 110).retry_from == 160
+        assert shelf.peek("www.example.", TXT, 110).data == (b"\1x",)
+
+
 @pytest.mark.parametrize("call", [
     lambda shelf, name: shelf.ask(name, A, 1), lambda shelf, name: shelf.ask_alias(name, A, 1),
     lambda shelf, name: shelf.peek(name, A, 1), lambda shelf, name: shelf.peek_alias(name, A, 1),

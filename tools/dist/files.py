@@ -12,7 +12,7 @@ import subprocess
 import tarfile
 import tempfile
 from pathlib import Path, PurePosixPath
-from typing import NamedTuple
+from typing import NamedTuple, Union
 
 TOP = Path(__file__).resolve().parents[2]
 FOLDER_MODE, TEXT_MODE, PROGRAM_MODE = 0o755, 0o644, 0o755
@@ -31,8 +31,8 @@ class Link(NamedTuple):
     target: str
 
 
-# By path, with / between its parts.
-Tree = dict[str, File | Link]
+# By path, with / between its parts. (bin/install-c also runs under Python 3.9, which has no `|`.)
+Tree = dict[str, Union[File, Link]]
 
 
 class Missing(Exception):

@@ -109,6 +109,31 @@ fn errors_of_writers_come_back() {
     }
 }
 
+/// A writer that takes all octets, and fails as its buffer is written out.
+struct Unflushed(Vec<u8>);
+
+impl Write for Unflushed {
+    fn write(&mut self, octets: &[u8]) -> io::Result<usize> {
+        self.0.write(octets)
+    }
+
+    fn flush(&mut self) -> io::Result<()> {
+        Err(io::Error::new(io::ErrorKind::StorageFull, "full"))
+    }
+}
+
+/// A `BufWriter` drops such an error when it is dropped, so the calls flush the writer themselves.
+#[test]
+fn errors_of_a_flush_come_back() {
+    let cache = recorded();
+    let mut writer = Unflushed(Vec::new());
+    let error = cache.stop_recording(&mut writer).unwrap_err();
+    assert_eq!((error.kind(), error.to_string()), (io::ErrorKind::StorageFull, "full".into()));
+    assert!(writer.0.ends_with(b"\n"), "all was written before");
+    let error = cache.dump(Unflushed(Vec::new())).unwrap_err();
+    assert_eq!(error.kind(), io::ErrorKind::StorageFull);
+}
+
 /// A panic of the writer goes on in the caller, and the cache goes on too: no lock is held.
 #[test]
 fn panics_of_writers_do_not_unwind_into_c() {

@@ -35,6 +35,19 @@ fn an_rrset_answers_until_its_ttl_is_over() {
     assert_eq!(look(&cache, "www.example", RecordType::AAAA, FIRST).kind(), AnswerKind::Miss);
 }
 
+/// In a zone file these characters have a meaning, as the dot and the backslash have in a name (RFC
+/// 1035 section 5.1).
+#[test]
+fn an_owner_is_shown_as_a_zone_file_has_it() {
+    let cache = open();
+    let owner = Name::from_wire(b"\x09(a);\"$@.\\\x01b\0").unwrap();
+    let set = Set { moment: FIRST, ..Set::new(&owner, RecordType::A, 60, &[ADDRESS]) };
+    cache.store_set(&set).unwrap();
+    let request = Request { moment: FIRST, ..Request::new(&owner, RecordType::A) };
+    let shown = all_shown(&cache.lookup(&request).unwrap());
+    assert_eq!(shown, [r#"\(a\)\;\"\$\@\.\\.b. 60 IN A \# 4 c0000201"#]);
+}
+
 /// Its entry has the TTL and the moment of the store, and how many were used later, before the
 /// look-up itself brings it to the front.
 #[test]
