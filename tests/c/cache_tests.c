@@ -2788,6 +2788,7 @@ static void test_too_large_with_ttl_0(void)
     negative.soa_owner_size = name.size;
     negative.soa = soa;
     negative.soa_size = 2 * name.size + 20;
+    negative.trust = RRCACHE_AUTHORITATIVE_ANSWER;
     outcome = 7;
     EXPECT(keep(cache, "www.example", 600) == RRCACHE_KEPT
            && rrcache_store_negative(cache, &negative, &outcome) == RRCACHE_DONE
