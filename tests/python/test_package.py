@@ -25,7 +25,7 @@ def test_docstrings():
     modules = [importlib.import_module(f"rrcache.{it.name}")
                for it in pkgutil.iter_modules(rrcache.__path__)]
     results = [doctest.testmod(it) for it in modules]
-    assert [sum(it) for it in zip(*results)] == [0, 168]
+    assert [sum(it) for it in zip(*results)] == [0, 169]
 
 
 def test_types():

@@ -2,6 +2,7 @@
 """A cache that threads share, from threads of Python: each reply is checked, calls overlap, and a
 cache may be closed meanwhile. How long a look-up takes is compared with one of a `Cache`."""
 import gc
+import os
 import subprocess
 import sys
 import threading
@@ -14,6 +15,7 @@ from dns.rdatatype import A, CNAME, TXT
 
 import rrcache
 from rrcache import Kind, SharedCache, Trust, writing
+from tests.conftest import TOP
 from tests.forwarder.harness import ID, aliases, answered, hosts, wire_name
 from tools.audits import first_fault
 
@@ -217,6 +219,7 @@ print(os.waitpid(child, 0)[1], *closed)
 
 def test_a_forked_child_frees_nothing():
     """A thread of the parent may have been in a call as it forked: what the child has is torn."""
+    around = {**os.environ, "PYTHONPATH": str(TOP / "python")}
     told = subprocess.run([sys.executable, "-c", FORKED], capture_output=True, text=True,
-                          check=True, timeout=60)
+                          timeout=60, env=around)
     assert (told.stdout, told.stderr) == ("0 shelf cache\n", "")
