@@ -78,7 +78,8 @@ class Place:
         """The words that link with the shared library or with the archive, as in PACKAGES.md."""
         if linkage == "shared":
             return self.flags()
-        [folder] = [self.lib] if self.root else shlex.split(self.told("--variable=libdir"))
+        told = self.told("--variable=libdir").strip().replace("\\ ", " ")
+        folder = self.lib if self.root else told
         return [*shlex.split(self.told("--cflags")), f"{folder}/librrcache.a", "-pthread"]
 
     def header(self, name):
