@@ -3,11 +3,13 @@
 import dns.message
 import dns.rrset
 
+OTHER_CLASSES = ("CH", "HS")
+
 
 def message(number, flags, asked="", answer=(), authority=(), additional=()):
     """A message with a question such as "www.example. A", unless that is empty, and records as zone
-    files have them, such as "www.example. 60 A 192.0.2.1". Its flags are all of the header's second
-    16 bits."""
+    files have them, such as "www.example. 60 A 192.0.2.1" or "www.example. 60 CH TXT a". Its flags
+    are all of the header's second 16 bits."""
     made = dns.message.Message(number)
     made.flags = flags
     if asked:
@@ -16,7 +18,10 @@ def message(number, flags, asked="", answer=(), authority=(), additional=()):
     for section, records in zip(made.sections[1:], (answer, authority, additional)):
         for record in records:
             name, ttl, rtype, data = record.split(maxsplit=3)
-            section.append(dns.rrset.from_text(name, int(ttl), "IN", rtype, data))
+            rclass = "IN"
+            if rtype in OTHER_CLASSES:
+                rclass, (rtype, data) = rtype, data.split(maxsplit=1)
+            section.append(dns.rrset.from_text(name, int(ttl), rclass, rtype, data))
     return made.to_wire()
 
 

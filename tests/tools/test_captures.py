@@ -540,6 +540,39 @@ def test_an_alias_ends_with_a_negative_answer(flags, asked, answer, authority, l
     assert texts(talk(*said), follows_aliases=True)[2:] == last
 
 
+# What a cache takes no alias from (docs/RULES.md, "What a response offers"): what is truncated, has
+# failed, or is of another opcode or class, and a record of another class.
+NOT_TAKEN = [
+    (0x8600, WWW, [ALIAS]), (0x8402, WWW, [ALIAS]), (0x8405, WWW, [ALIAS]), (0xA400, WWW, [ALIAS]),
+    (0x8400, "www.example. CH TXT", ["www.example. 60 CH CNAME web.example."]),
+    (0x8400, WWW, ["www.example. 60 CH CNAME web.example."])]
+
+
+@pytest.mark.parametrize("flags, asked, answer", NOT_TAKEN)
+def test_no_alias_is_learned_from_what_the_cache_does_not_take(flags, asked, answer):
+    said = [*exchange(0, query(asked, 9, 0), message(9, flags, asked, answer)), asks(1)]
+    assert texts(talk(*said), follows_aliases=True) == ["response 0 .", "ask 1 www.example. 1"]
+
+
+@pytest.mark.parametrize("flags, zone", [(0x8000, "example."), (0x8200, "."), (0x8002, ".")])
+def test_no_zone_is_learned_from_what_the_cache_does_not_take(flags, zone):
+    """A referral, and the same truncated and as a failure; the next query has the same name."""
+    said = [*exchange(0, UP, message(9, flags, WWW, [], [NS], ["ns.example. 60 A 192.0.2.201"])),
+            *exchange(1, UP, ANSWER)]
+    assert texts(talk(*said)) == ["response 0 .", f"response 1 {zone}"]
+
+
+@pytest.mark.parametrize("flags, asked, wanted", [
+    (0x8402, WWW, []), (0x8602, WWW, ["fail 2 www.example. 1"]),
+    (0x8401, "", ["fail 2 www.example. 1"])])
+def test_a_failure_that_the_cache_does_not_take_is_told_of_by_the_resolver(flags, asked, wanted):
+    """The cache takes the failure of a response, but nothing of one that is truncated or has no
+    question."""
+    said = [ASKED, *exchange(1, UP, message(9, flags, asked)),
+            (2, RESOLVER, CLIENT, message(7, 0x8182, WWW))]
+    assert texts(talk(*said)) == [ASK, "response 1 .", *wanted]
+
+
 def test_an_alias_outside_of_the_zone_of_a_negative_answer_stays():
     """The server of `example.` can't deny the target in another zone (RFC 2181 section 5.4.1)."""
     alias = ["www.example. 60 CNAME web.", "web. 60 CNAME a."]

@@ -11,7 +11,8 @@ from typing import NamedTuple
 from tools.captures.seen import CUT, MICROSECONDS
 from tools.captures.sides import QR, RD, Sides, guess
 from tools.messages import (ALIASES_MOST, ANY, CNAME, HEADER, IN, NOERROR, NS, NXDOMAIN, QUESTION,
-                            SOA, MessageFault, fields_at, final_name, is_kept, name_at, read)
+                            SOA, MessageFault, fields_at, final_name, in_own_class, is_kept,
+                            name_at, read, why_nothing)
 from tools.names import ROOT, ancestors, fold, is_at_or_below, to_text
 from tools.traces import MOMENT_MOST
 
@@ -121,15 +122,12 @@ def no_alias(message):
     """The name that a negative answer denies, so that it is no alias, or None (RFC 2308 section 2).
 
     NS records without an SOA record are a referral, which denies nothing (section 2.2)."""
-    if (message.is_truncated or message.opcode or message.rclass != IN
-            or message.rtype in (CNAME, ANY)):
-        return None
     there = {it.rtype for it in message.sections[1]}
-    is_referral = NS in there and SOA not in there
-    if message.rcode == NXDOMAIN or message.rcode == NOERROR and not is_referral:
-        led = final_name(message)
-        return led and led[0]
-    return None
+    is_referral = message.rcode == NOERROR and NS in there and SOA not in there
+    if is_referral or message.rtype in (CNAME, ANY):
+        return None
+    led = final_name(message)
+    return led and led[0]
 
 
 # ---- lines
@@ -322,7 +320,6 @@ class Traffic:
             self.counts["server's response: to another question than its query"] += 1
             return
         self.answer(key, pending)
-        self.note(it.at, question, pending)
         zone = self.learnt(it, pending)
         yield f"response {it.at // MICROSECONDS} {text(zone)} {it.octets.hex() or '-'}"
 
@@ -340,16 +337,11 @@ class Traffic:
             self.counts["server's response: cut off, as by the capture's snap length"] += 1
             self.answer(key, pending)
 
-    def note(self, at, question, pending):
-        """Notes whether a question failed just now."""
-        self.failed.pop(pending.question.asked, None)
-        if question and question.flags & 15 not in (0, 3):
-            self.remember(at, pending.question)
-
     def learnt(self, it, pending):
-        """Learns what is in a response, and returns its zone."""
+        """Learns what is in a response, if the cache takes data of class IN from it, and returns
+        its zone."""
         try:
-            message = read(it.octets)
+            message = in_own_class(read(it.octets))
         except MessageFault as fault:
             self.counts[f"used, though the cache will refuse it: {fault}"] += 1
             return pending.zone
@@ -357,10 +349,20 @@ class Traffic:
         if not pending.is_known and not it.zone:
             told = told_zone(message)
             zone = told if told and is_at_or_below(told, zone) else zone
+        if message.rclass == IN and not why_nothing(message, zone):
+            self.learn(it.at, pending.question, message, zone)
+        return zone
+
+    def learn(self, at, question, message, zone):
+        """Learns whether a question failed just now, and if it did not, the zones and aliases in
+        the response."""
+        if message.rcode not in (NOERROR, NXDOMAIN):
+            self.remember(at, question)
+            return
+        self.failed.pop(question.asked, None)
         self.zones.learn(message, zone)
         if self.aliases is not None:
             self.learn_aliases(message, zone)
-        return zone
 
     def learn_aliases(self, message, zone):
         """Learns which names of an answer are aliases, and which are not."""
