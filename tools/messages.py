@@ -24,9 +24,12 @@ FAULTS = {
 }
 MESSAGE_LEAST, MESSAGE_MOST = 12, 65_535
 IN, CH, HS = 1, 3, 4
-A, NS, CNAME, SOA, ANY = 1, 2, 5, 6, 255
+A, NS, CNAME, SOA, RRSIG, NSEC, ANY = 1, 2, 5, 6, 46, 47, 255
 NOERROR, NXDOMAIN = 0, 3
 ALIASES_MOST = 16
+# A look-up for one of these types follows no alias, since an alias may have records of these types
+# itself (RFC 1034 section 4.3.2, RFC 4035 section 2.5).
+NOT_FOLLOWED = (CNAME, ANY, NSEC, RRSIG)
 KEPT_CLASSES = {IN, CH, HS}
 NOT_KEPT = {0, 24, 30, 35, 41, 46, *range(128, 256)}
 # Fixed octets, names, fixed octets of the data of a type.

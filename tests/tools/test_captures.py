@@ -163,6 +163,13 @@ def texts(capture, **options):
     return told(capture, **options)[0]
 
 
+def replies(capture, **options):
+    """The words of the replies to the asks, by the model."""
+    lines, _ = lines_of(capture, **{"resolvers": [Place(RESOLVER)], **options})
+    told = report(line_of(it.encode()) for it in lines)
+    return [it.split()[2] for it in told if " ask " in it]
+
+
 WWW, NS, ROOT_SOA = "www.example. A", "example. 60 NS ns.example.", ". 60 SOA . . 1 2 3 4 5"
 UP = query(number=9, flags=0)
 ANSWER = message(9, 0x8400, WWW, ["www.example. 60 A 0.0.0.0"])
@@ -478,6 +485,24 @@ def test_aliases_are_followed_where_that_is_asked_for(follows, middle):
         "ask 4 www.example. 1"]
 
 
+NSEC = "www.example. NSEC"
+
+
+@pytest.mark.parametrize("asked, answer", [
+    (NSEC, ["www.example. 60 NSEC a.example. CNAME NSEC"]), ("www.example. RRSIG", [
+        "www.example. 60 RRSIG NSEC 8 2 60 20300101000000 20200101000000 1 example. AAAA"])])
+def test_an_alias_may_have_records_of_its_own(asked, answer):
+    """A question for its NSEC records asks for no other name (docs/RULES.md, "The alias rule"), and
+    the alias is known also after these records or their signature came (RFC 4035 section 2.5)."""
+    own = message(9, 0x8400, asked, answer)
+    said = [*exchange(0, UP, message(9, 0x8400, WWW, [ALIAS, "web.example. 60 A 192.0.2.201"])),
+            *exchange(1, query(asked, 9, 0), own), asks(2), asks(3, NSEC)]
+    assert texts(talk(*said), follows_aliases=True)[2:] == [
+        "ask 2 www.example. 5", "ask 2 web.example. 1", "ask 3 www.example. 47"]
+    wanted = ["fresh", "fresh", "fresh" if asked == NSEC else "miss"]
+    assert replies(talk(*said), follows_aliases=True) == wanted
+
+
 @pytest.mark.parametrize("rtype", ["IXFR", "AXFR"])
 @pytest.mark.parametrize("asked", [[], ["example. {}", ""]])
 def test_a_zone_transfer_is_left_out(rtype, asked):
@@ -528,12 +553,16 @@ UNKNOWN = ["ask 3 www.example. 1"]
     (0x8600, WWW, [], [ROOT_SOA], KNOWN), (0x8402, WWW, [], [ROOT_SOA], KNOWN),
     (0x8400, "www.example. CNAME", [], [ROOT_SOA], KNOWN),
     (0x8400, "www.example. ANY", [], [ROOT_SOA], KNOWN),
+    (0x8400, "www.example. NSEC", [], [ROOT_SOA], KNOWN),
+    (0x8400, "www.example. RRSIG", [], [ROOT_SOA], KNOWN),
+    (0x8403, "www.example. NSEC", [], [ROOT_SOA], UNKNOWN),
     (0x8403, "www.example. CH A", [], [ROOT_SOA], KNOWN),
     # the alias is there still, and its target is none
     (0x8403, WWW, [ALIAS], [ROOT_SOA], ["ask 3 www.example. 5", "ask 3 web.example. 1"])])
 def test_an_alias_ends_with_a_negative_answer(flags, asked, answer, authority, last):
     """NXDOMAIN, and NODATA with a SOA record or with no NS record (RFC 2308 section 2); neither a
-    referral, nor what is truncated, failed, of another class, or about the CNAME record itself."""
+    referral, nor what is truncated, failed, of another class, or about the CNAME record itself. An
+    alias may have no NSEC and RRSIG records (RFC 4035 section 2.5)."""
     known = message(9, 0x8400, WWW, [ALIAS, "web.example. 60 CNAME a."])
     denied = message(9, flags, asked, answer, authority)
     said = [*exchange(0, UP, known), *exchange(1, query(asked, 9, 0), denied), asks(3)]

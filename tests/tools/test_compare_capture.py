@@ -500,9 +500,9 @@ def served(at, asked, lines, number):
     yield sent(at + 0.001, SERVER, OWN, said(asked, lines, number, 0x8400))
 
 
-def talk(name, number, told, answered, flags=0x8180):
+def talk(name, number, told, answered, flags=0x8180, rtype="A"):
     """The packets of a server's response, and of a client's query with the resolver's answer."""
-    asked = f"{name} A"
+    asked = f"{name} {rtype}"
     if told:
         yield from served(0, asked, told, number)
     yield sent(10, CLIENT, OWN, query(asked, number))
@@ -599,6 +599,22 @@ def test_an_alias_that_the_trace_does_not_follow_is_not_compared(compare, tmp_pa
     assert (status, numbers(found)) == (0, {"same": 1})
     assert found["not_compared"] == {
         "rrcache has an alias to a name that the trace does not ask for": 1}
+
+
+OWN_NSEC = "@ 60 NSEC o. CNAME NSEC"
+
+
+@pytest.mark.parametrize("told, answered, word", [
+    ([OWN_NSEC], ["@ 50 NSEC o. CNAME NSEC"], "same"),
+    # one that comes with the CNAME record of its name, and one of the target alone
+    ([OWN_NSEC], ["@ 50 CNAME t.@", "@ 50 NSEC o. CNAME NSEC"], "same"),
+    (["@ 60 CNAME t.@"], ["@ 50 CNAME t.@", "t.@ 50 NSEC u. A NSEC"], "unseen")])
+def test_an_alias_has_NSEC_records_of_its_own(compare, tmp_path, told, answered, word):
+    """For these no alias is followed (docs/RULES.md, "The alias rule")."""
+    path = capture_of(tmp_path, talk("n.", 1, told, answered, rtype="NSEC"),
+                      talk("n.", 2, ALIASED, None))
+    status, found = compare(path)
+    assert (status, numbers(found)) == (0, {word: 1})
 
 
 @pytest.mark.parametrize("said_before, is_stale, wanted", [

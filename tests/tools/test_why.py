@@ -83,11 +83,13 @@ WHY = [
       " line 0 stored at 110 for 60 seconds"]),
 ]
 # The lines, and the number of one of which nothing is to be said of an alias: a fresh answer; an
-# ask for the alias; one in another class; one for a name that has no CNAME record (RFC 2308 section
-# 2.2); and one before the alias was stored.
+# ask for the alias; one for its NSEC record, for which no alias is followed (RFC 4035 section 2.5);
+# one in another class; one for a name that has no CNAME record (RFC 2308 section 2.2); and one
+# before the alias was stored.
 NO_ALIAS = [
     ([ALIAS, PUT, "ask 110 a.example. 1 answer none"], 2),
     ([ALIAS, "ask 170 a.example. 5 answer none"], 1),
+    ([ALIAS, "ask 110 a.example. 47 answer none"], 1),
     ([ALIAS, "ask 110 a.example. 16/3 answer none"], 1),
     ([f"response 100 example. {NO_CNAME}", "ask 110 a.example. 1 answer none"], 1),
     (["ask 110 a.example. 1 answer none", ALIAS], 0),

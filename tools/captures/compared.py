@@ -8,8 +8,8 @@ in any order. Records of types that the cache does not keep, as RRSIG, are left 
 from enum import Enum
 from typing import NamedTuple
 
-from tools.messages import (ALIASES_MOST, ANY, CNAME, NOERROR, NXDOMAIN, SOA, MessageFault,
-                            plain_item, read, sets_of)
+from tools.messages import (ALIASES_MOST, ANY, CNAME, NOERROR, NOT_FOLLOWED, NXDOMAIN, SOA,
+                            MessageFault, plain_item, read, sets_of)
 from tools.names import fold, from_text
 
 # How many seconds apart TTLs may be: moments of a trace and of a resolver are whole seconds.
@@ -89,13 +89,15 @@ def resolver_answer(cached):
 
 
 def chain_of(message):
-    """The RRsets from the question's name along its aliases, and the name to which these lead."""
+    """The RRsets from the question's name along its aliases, and the name to which these lead. An
+    alias is not followed if it has the CNAME or NSEC records that are asked for."""
     there = {key: Records(*key, frozenset(it.folded for it in records),
                           min(it.ttl for it in records))
              for key, records in sets_of(message.sections[0])}
     name, sets = fold(message.name), []
-    while (message.rtype not in (CNAME, ANY) and (name, CNAME) in there
-           and len(sets) < ALIASES_MOST):
+    has_own = message.rtype in NOT_FOLLOWED and (name, message.rtype) in there
+    is_led = message.rtype != ANY and not has_own
+    while is_led and (name, CNAME) in there and len(sets) < ALIASES_MOST:
         sets.append(there[name, CNAME])
         name = min(sets[-1].data)
     if (name, message.rtype) in there:

@@ -4,10 +4,9 @@
 Each sentence names the section of the RFC from which its rule comes, or says `ours` if it is a rule
 of this cache.
 """
-from tools.messages import (NXDOMAIN, SOA, MessageFault, final_name, is_at_or_below, read,
-                            set_offer, sets_of, why_nothing)
-from tools.model import (CAP, CNAME, GLUE, IN, NEGATIVE_CAP, RECHECK, STALE_SECONDS, Key, Offer,
-                         part_of)
+from tools.messages import (NOT_FOLLOWED, NXDOMAIN, SOA, MessageFault, final_name, is_at_or_below,
+                            read, set_offer, sets_of, why_nothing)
+from tools.model import (CAP, GLUE, IN, NEGATIVE_CAP, RECHECK, STALE_SECONDS, Key, Offer, part_of)
 from tools.names import fold, to_text
 from tools.traces import Replay
 
@@ -196,7 +195,7 @@ class Story:
         if reply.governing:
             yield from self.good(reply, at, purpose, mode)
         yield from self.failure(reply, at)
-        if reply.word == "miss" and rtype != CNAME:
+        if reply.word == "miss" and rtype not in NOT_FOLLOWED:
             yield from self.alias(reply.alias, at)
 
     def governs(self, reply, name, rtype, at, rclass):

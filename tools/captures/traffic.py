@@ -10,9 +10,9 @@ from typing import NamedTuple
 
 from tools.captures.seen import CUT, MICROSECONDS
 from tools.captures.sides import QR, RD, Sides, guess
-from tools.messages import (ALIASES_MOST, ANY, CNAME, HEADER, IN, NOERROR, NS, NXDOMAIN, QUESTION,
-                            SOA, MessageFault, fields_at, final_name, in_own_class, is_kept,
-                            name_at, read, why_nothing)
+from tools.messages import (ALIASES_MOST, ANY, CNAME, HEADER, IN, NOERROR, NOT_FOLLOWED, NS, NSEC,
+                            NXDOMAIN, QUESTION, SOA, MessageFault, fields_at, final_name,
+                            in_own_class, is_kept, name_at, read, why_nothing)
 from tools.names import ROOT, ancestors, fold, is_at_or_below, to_text
 from tools.traces import MOMENT_MOST
 
@@ -121,10 +121,13 @@ def told_zone(message):
 def no_alias(message):
     """The name that a negative answer denies, so that it is no alias, or None (RFC 2308 section 2).
 
-    NS records without an SOA record are a referral, which denies nothing (section 2.2)."""
+    NS records without an SOA record are a referral, which denies nothing (section 2.2). A name that
+    has no NSEC or RRSIG records may still be an alias (RFC 4035 section 2.5)."""
     there = {it.rtype for it in message.sections[1]}
-    is_referral = message.rcode == NOERROR and NS in there and SOA not in there
-    if is_referral or message.rtype in (CNAME, ANY):
+    is_referral = NS in there and SOA not in there
+    if message.rtype in (CNAME, ANY):
+        return None
+    if message.rcode == NOERROR and (is_referral or message.rtype in NOT_FOLLOWED):
         return None
     led = final_name(message)
     return led and led[0]
@@ -244,7 +247,7 @@ class Traffic:
         target of the last one (RFC 1034 section 3.6.2)."""
         name, rtype = question.spelled, question.rtype
         for _ in range(ALIASES_MOST):
-            if not self.aliases or rtype == CNAME or fold(name) not in self.aliases:
+            if not self.aliases or rtype in NOT_FOLLOWED or fold(name) not in self.aliases:
                 break
             yield name, CNAME
             name = self.aliases[fold(name)]
@@ -365,9 +368,10 @@ class Traffic:
             self.learn_aliases(message, zone)
 
     def learn_aliases(self, message, zone):
-        """Learns which names of an answer are aliases, and which are not."""
+        """Learns which names of an answer are aliases, and which are not. Either may have an NSEC
+        record (RFC 4035 section 2.5)."""
         targets = {fold(it.owner): it.data if it.rtype == CNAME else None
-                   for it in message.sections[0]}
+                   for it in message.sections[0] if it.rtype != NSEC}
         targets[no_alias(message)] = None
         for name, target in targets.items():
             if name and is_at_or_below(name, zone):
