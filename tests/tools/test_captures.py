@@ -612,6 +612,59 @@ def test_an_alias_outside_of_the_zone_of_a_negative_answer_stays():
         "ask 3 www.example. 5", "ask 3 web. 5", "ask 3 a. 1"]
 
 
+def led(ttl, middle=()):
+    """An exchange at the first second: an alias with a TTL, and an address with a TTL of 60."""
+    name = "x" if middle else "web"
+    return exchange(0, UP, message(9, 0x8400, WWW, [
+        f"www.example. {ttl} CNAME {name}.example.", *middle, "web.example. 60 A 192.0.2.201"]))
+
+
+def unanswered(asked=WWW, at=100):
+    """A query that no server answers, so it fails five seconds later."""
+    return at, RESOLVER, SERVER, query(asked, 9, 0)
+
+
+THROUGH = led(600, ["x.example. 60 CNAME web.example."])
+REFERRAL = exchange(106, UP, message(9, 0x8000, WWW, [], [NS]))
+AGAIN = exchange(110, query("www.example. MX", 9, 0), message(9, 0x8400, "www.example. MX", [
+    "www.example. 600 CNAME web.example."], [ROOT_SOA]))
+BOTH_MISS, BOTH_STALE = ["miss", "miss"], ["stale", "stale"]
+
+
+@pytest.mark.parametrize("said, wanted", [
+    # from 105 to 134 the failure counts for all names of the chain, and for this question only
+    ([*led(600), unanswered(), asks(106), asks(106, "web.example. A"), asks(134), asks(135)],
+     ["fresh", "stale", "miss", "fresh", "stale", "fresh", "miss"]),
+    ([*led(600), unanswered(at=100.9), asks(134.5), asks(135.5)],
+     ["fresh", "stale", "fresh", "miss"]),
+    ([*led(60), unanswered(), asks(106)], BOTH_STALE),
+    ([*led(60), unanswered(), asks(135)], BOTH_MISS),
+    # no failure, one of another type, and a client that takes no stale answer
+    ([*led(60), asks(106)], BOTH_MISS),
+    ([*led(60), unanswered("www.example. AAAA"), asks(106)], BOTH_MISS),
+    ([*led(60), unanswered(), (106, CLIENT, RESOLVER, query(flags=0))], BOTH_MISS),
+    # the failure is what a server says, or the resolver
+    ([*led(60), *exchange(105, UP, message(9, 0x8402, WWW)), asks(106)], BOTH_STALE),
+    ([*led(60), (105, RESOLVER, CLIENT, message(7, 0x8182, WWW)), asks(106)], BOTH_STALE),
+    # from a referral nothing is stored for the question, so the failure is still recent
+    ([*led(60), unanswered(), *REFERRAL, asks(107)], BOTH_STALE),
+    # the CNAME record came again later, so the failure says nothing about its target
+    ([*led(60), unanswered(), *AGAIN, asks(111)], ["fresh", "miss"]),
+    # an alias in the middle for which the query failed, which says nothing about its target either
+    ([*THROUGH, unanswered("x.example. A"), asks(106)], ["fresh", "stale", "miss"]),
+    ([*THROUGH, unanswered(), asks(106)], ["fresh", *BOTH_STALE])])
+def test_a_failure_counts_for_aliases(said, wanted):
+    """By docs/RULES.md, "The alias rule" and "Serving stale data"."""
+    assert replies(talk(*said), follows_aliases=True) == wanted
+
+
+def test_a_failure_is_told_of_again_after_a_response():
+    """A server responded after the time-out, and then the resolver gives up all the same."""
+    servfail = (108, RESOLVER, CLIENT, message(7, 0x8182, WWW))
+    assert texts(talk(unanswered(), *REFERRAL, servfail)) == [
+        "fail 105 www.example. 1", "response 106 .", "fail 108 www.example. 1"]
+
+
 def refused(at, packet=sent(*ASKED_UP)[1]):
     """An ICMP message that a port is unreachable, of the first octets of a packet (RFC 792)."""
     return NOW + at, made.ip4(SERVER, RESOLVER, 1, b"\3\3" + bytes(6) + packet[:28])

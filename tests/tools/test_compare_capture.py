@@ -551,6 +551,17 @@ def test_stale_data_of_rrcache(compare, tmp_path, mode, word):
     assert (status, numbers(found)) == (0, {word: 2})
 
 
+def test_a_failure_counts_for_the_names_of_a_CNAME_chain(compare, tmp_path):
+    """A query fails after five seconds, so the client, who asks at 10, gets stale data of both
+    names (docs/RULES.md, "Serving stale data")."""
+    path = capture_of(
+        tmp_path, served(0, "n. A", ["@ 5 CNAME t.@", "t.@ 5 A 192.0.2.1"], 1),
+        [sent(3, OWN, SERVER, query("n. A", 2, flags=0))],
+        talk("n.", 3, None, ["@ 30 CNAME t.@", "t.@ 30 A 192.0.2.1"]))
+    status, found = compare(path)
+    assert (status, numbers(found)) == (0, {"stale": 1})
+
+
 GOOD = list(talk("good.", 1, ["@ 60 A 192.0.2.1"], ["@ 50 A 192.0.2.1"]))
 
 

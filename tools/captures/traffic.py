@@ -13,6 +13,7 @@ from tools.captures.sides import QR, RD, Sides, guess
 from tools.messages import (ALIASES_MOST, ANY, CNAME, HEADER, IN, NOERROR, NOT_FOLLOWED, NS, NSEC,
                             NXDOMAIN, QUESTION, SOA, MessageFault, fields_at, final_name,
                             in_own_class, is_kept, name_at, read, why_nothing)
+from tools.model import RECHECK
 from tools.names import ROOT, ancestors, fold, is_at_or_below, to_text
 from tools.traces import MOMENT_MOST
 
@@ -61,6 +62,22 @@ class Pending(NamedTuple):
     question: Question
     zone: bytes
     is_known: bool
+
+
+class Alias(NamedTuple):
+    """The target of a CNAME record, and the number of the record among those that were learned."""
+
+    target: bytes
+    number: int
+
+
+class Failure(NamedTuple):
+    """When a question failed, how many CNAME records were learned before, and whether a server
+    responded since."""
+
+    at: int
+    learned: int
+    is_over: bool = False
 
 
 text = lru_cache(maxsize=65_536)(to_text)
@@ -144,7 +161,7 @@ class Traffic:
         self.mode, self.has_answers = mode, False
         self.counts, self.sides, self.ports = counts, Sides(resolvers), frozenset(ports)
         self.is_given = bool(resolvers)
-        self.aliases = {} if follows_aliases else None
+        self.aliases, self.learned = {} if follows_aliases else None, 0
         self.zones, self.timeout = Zones(by_servers), seconds * MICROSECONDS
         self.pending, self.open, self.between = OrderedDict(), {}, {}
         self.failed, self.recent, self.latest = OrderedDict(), OrderedDict(), 0
@@ -229,8 +246,9 @@ class Traffic:
         if reason:
             self.counts[f"client's query: {reason}"] += 1
             return
-        mode, at = self.mode_of(it, question), it.at // MICROSECONDS
-        for name, rtype in self.chain(question):
+        asks, at = [*self.chain(question)], it.at // MICROSECONDS
+        modes = self.modes(asks, question.rtype, at, self.mode_of(it, question))
+        for (name, rtype), mode in zip(asks, modes):
             yield f"ask {at} {text(name)} {rtype} answer {mode}"
 
     def mode_of(self, it, question):
@@ -242,6 +260,22 @@ class Traffic:
             self.counts[WAIT_UNKNOWN] += 1
         return "now" if it.waited else self.mode
 
+    def modes(self, asks, rtype, at, mode):
+        """The modes of the asks for a question of a type, of which all but the last are for
+        aliases. If an alias has failed, its CNAME record may be stale, and if that is the name of
+        the question, so may all that follows (docs/RULES.md, "The alias rule")."""
+        failed = [mode == "failed" and self.has_failed(name, rtype, at) for name, _ in asks[:-1]]
+        is_whole = failed[:1] == [True]
+        return ["now" if is_whole or it else mode for it in [*failed, False]]
+
+    def has_failed(self, alias, rtype, at):
+        """Whether the failure of an alias and a type is recent, and came after the CNAME record.
+        The data and denials that mask a failure also end the alias."""
+        name = fold(alias)
+        failure = self.failed.get((name, rtype))
+        return (failure is not None and failure.learned >= self.aliases[name].number
+                and at - failure.at // MICROSECONDS < RECHECK)
+
     def chain(self, question):
         """What a cache is asked for: if aliases are followed, each that is known by now, and the
         target of the last one (RFC 1034 section 3.6.2)."""
@@ -250,7 +284,7 @@ class Traffic:
             if not self.aliases or rtype in NOT_FOLLOWED or fold(name) not in self.aliases:
                 break
             yield name, CNAME
-            name = self.aliases[fold(name)]
+            name = self.aliases[fold(name)].target
         yield name, rtype
 
     def answered(self, it, question):
@@ -258,7 +292,7 @@ class Traffic:
         self.has_answers |= question.flags & 15 != SERVFAIL
         if question.flags & 15 == SERVFAIL and not unusable(question):
             last = self.failed.get(question.asked)
-            if last is None or it.at - last >= REMEMBERED:
+            if last is None or last.is_over or it.at - last.at >= REMEMBERED:
                 yield self.fail(it.at, question)
 
     # ---- servers
@@ -362,7 +396,8 @@ class Traffic:
         if message.rcode not in (NOERROR, NXDOMAIN):
             self.remember(at, question)
             return
-        self.failed.pop(question.asked, None)
+        if failure := self.failed.get(question.asked):
+            self.failed[question.asked] = failure._replace(is_over=True)
         self.zones.learn(message, zone)
         if self.aliases is not None:
             self.learn_aliases(message, zone)
@@ -377,14 +412,15 @@ class Traffic:
             if name and is_at_or_below(name, zone):
                 self.aliases.pop(name, None)
                 if target:
-                    self.aliases[name] = target
+                    self.learned += 1
+                    self.aliases[name] = Alias(target, self.learned)
 
     # ---- failures
 
     def remember(self, at, question):
         self.failed.pop(question.asked, None)
-        self.failed[question.asked] = at
-        drop_first(self.failed, FAILED_MOST, lambda then: at - then >= REMEMBERED)
+        self.failed[question.asked] = Failure(at, self.learned)
+        drop_first(self.failed, FAILED_MOST, lambda it: at - it.at >= REMEMBERED)
 
     def fail(self, at, question):
         self.remember(at, question)
