@@ -369,6 +369,10 @@ def query_of(name):
     return query("")[:5] + b"\1" + query("")[6:] + name + b"\0\1\0\1"
 
 
+# A query with its question twice, which servers refuse (RFC 9619 section 4).
+TWO = query()[:5] + b"\2" + query()[6:] + query()[12:]
+
+
 def ip4(protocol, octets):
     return made.ethernet(made.ip4(CLIENT, RESOLVER, protocol, octets))
 
@@ -394,6 +398,8 @@ ODD = [
     (one(asked(query_of((b"\x3f" + b"a" * 63) * 4 + b"\0"))), "message: a name has more than 255"),
     (one(asked(query(flags=0x2900))), "client's query: its opcode is not"),
     (one(asked(query(""))), "client's query: it has no question"),
+    (one(asked(TWO)), "client's query: it has more than one question"),
+    (one(asked(TWO, RESOLVER, SERVER)), "query to a server: not a standard one"),
     (one(asked(query("www.example. CH A"))), "client's query: of a class other than IN"),
     (one(asked(query("www.example. ANY"))), "client's query: of type ANY"),
     (one(asked(query("www.example. OPT"))), "client's query: of a type that the cache does not"),

@@ -33,22 +33,24 @@ BACKWARD = "used, though more than a second earlier than one before: are the fil
 
 
 class Question(NamedTuple):
-    """The first question of a message, its name folded, and the message's flags."""
+    """The first question of a message, its name folded, the message's flags, and how many questions
+    it has."""
 
     flags: int
     name: bytes
     rtype: int
     rclass: int
     spelled: bytes
+    count: int
 
     @classmethod
     def of(cls, octets):
         (_, flags, questions, *_), _ = fields_at(octets, 0, HEADER)
         if not questions:
-            return cls(flags, b"", 0, IN, b"")
+            return cls(flags, b"", 0, IN, b"", 0)
         name, at = name_at(octets, 12, len(octets))
         (rtype, rclass), _ = fields_at(octets, at, QUESTION)
-        return cls(flags, fold(name), rtype, rclass, name)
+        return cls(flags, fold(name), rtype, rclass, name, questions)
 
     @property
     def asked(self):
@@ -299,7 +301,7 @@ class Traffic:
 
     def query(self, it, question):
         """Awaits the response to a query, also to that for a zone transfer, to recognize it."""
-        if question.flags >> 11 & 15 or not question.name:
+        if question.flags >> 11 & 15 or question.count != 1:
             self.counts["query to a server: not a standard one"] += 1
             return
         if it.zone is not None or question.flags & RD:
@@ -455,8 +457,10 @@ def unusable(question):
     """Why a question can be no line of a trace, or None."""
     if question.flags >> 11 & 15:
         return "its opcode is not that of a standard query"
-    if not question.name:
+    if not question.count:
         return "it has no question"
+    if question.count > 1:
+        return "it has more than one question"
     if question.rclass != IN:
         return "of a class other than IN"
     if not is_kept(question.rtype):
