@@ -1,8 +1,22 @@
 # SPDX-License-Identifier: MIT
 """Fixtures of the tests of tools."""
+import sys
+
 import pytest
 
-from tests.tools.shared import ran
+from tests.tools.shared import TOP, ran
+
+MODEL = f"""#!{sys.executable}
+import sys
+sys.dont_write_bytecode = True
+sys.path.insert(0, {str(TOP)!r})
+from tools.trials import by_model
+options = dict(it.removeprefix("--").split("=") for it in sys.argv[1:])
+answer = by_model({{it: int(value) for it, value in options.items()}}, sys.stdin.buffer.read())
+sys.stdout.buffer.write(answer.report)
+sys.stderr.buffer.write(answer.fault)
+sys.exit(answer.status)
+"""
 
 
 @pytest.fixture
@@ -13,6 +27,18 @@ def trace_of(tmp_path):
         path.write_text("".join(f"{it}\n" for it in lines))
         return path
     return write
+
+
+@pytest.fixture(scope="session")
+def replayer(request, tmp_path_factory):
+    """What replays: the program, or the model where that is not built."""
+    program = request.config.getoption("program")
+    if program.exists():
+        return program
+    path = tmp_path_factory.mktemp("model") / "model"
+    path.write_text(MODEL)
+    path.chmod(0o755)
+    return path
 
 
 @pytest.fixture

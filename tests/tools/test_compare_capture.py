@@ -11,7 +11,6 @@ import json
 import random
 import re
 import subprocess
-import sys
 from collections import Counter
 from functools import cache
 from typing import NamedTuple
@@ -37,29 +36,6 @@ dns = pytest.importorskip("dns.message")
 LABS = ["unbound", "bind", "powerdns"]
 RESOLVER = "192.0.2.53"
 WRONG, FAULT = 1, 2
-MODEL = f"""#!{sys.executable}
-import sys
-sys.dont_write_bytecode = True
-sys.path.insert(0, {str(TOP)!r})
-from tools.trials import by_model
-options = dict(it.removeprefix("--").split("=") for it in sys.argv[1:])
-answer = by_model({{it: int(value) for it, value in options.items()}}, sys.stdin.buffer.read())
-sys.stdout.buffer.write(answer.report)
-sys.stderr.buffer.write(answer.fault)
-sys.exit(answer.status)
-"""
-
-
-@pytest.fixture(scope="module")
-def replayer(request, tmp_path_factory):
-    """What replays: the program, or the model where that is not built."""
-    program = request.config.getoption("program")
-    if program.exists():
-        return program
-    path = tmp_path_factory.mktemp("model") / "model"
-    path.write_text(MODEL)
-    path.chmod(0o755)
-    return path
 
 
 @pytest.fixture(scope="module")

@@ -110,6 +110,21 @@ def test_what_if_counts_what_is_held(what_if, trace_of, lines, stale, octets):
     assert json.loads(what_if(trace_of(lines), *words))[0]["octets"] == octets
 
 
+def result_by(replayer, path, *words):
+    """The result of one setting, by the program or by the model where that is not built."""
+    run = ran("bin/what-if", "--program", replayer, "--json", *words, path)
+    assert (run.returncode, run.stderr) == (0, "")
+    (result,) = json.loads(run.stdout)
+    return result
+
+
+def test_what_if_knows_the_class_of_a_fetch_that_fails(replayer, trace_of):
+    """The failure of b. evicts that of a., so one of both is held."""
+    path = trace_of(["fetch 0 a. 16/3 . -", "fetch 0 b. 16/3 . -"])
+    found = result_by(replayer, path, "--capacity=1")
+    assert (found["evictions"], found["octets"]) == (1, ENTRY + NAME)
+
+
 @pytest.fixture
 def drawn(what_if, tmp_path):
     """Draws a trace, and answers the points of each curve by its name, which has its color."""
