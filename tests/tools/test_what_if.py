@@ -125,6 +125,17 @@ def test_what_if_knows_the_class_of_a_fetch_that_fails(replayer, trace_of):
     assert (found["evictions"], found["octets"]) == (1, ENTRY + NAME)
 
 
+@pytest.mark.parametrize("name, rclass", [("IN", 1), ("CH", 3), ("HS", 4)])
+def test_what_if_lowers_the_TTLs_of_negative_answers_of_each_class(replayer, trace_of, name,
+                                                                   rclass):
+    """A TTL of 5 that begins at 100 ends at 105 (RFC 2308 section 5)."""
+    soa = SOA.replace(" SOA ", f" {name} SOA ") if name != "IN" else SOA
+    path = trace_of([denied(f"a.example. {name} TXT", soa),
+                     *(f"ask {at} a.example. 16/{rclass} answer none" for at in (104, 105))])
+    found = result_by(replayer, path, "--capacity=8", "--negative=5")
+    assert (found["negative_answers"], found["missed"]) == (1, 1)
+
+
 @pytest.fixture
 def drawn(what_if, tmp_path):
     """Draws a trace, and answers the points of each curve by its name, which has its color."""
