@@ -140,6 +140,32 @@ def test_why_tells_of_an_alias_where_an_ask_misses_for_it(trace_of, lines, numbe
     assert run.returncode == 0 and run.stdout and "follows no CNAME" not in run.stdout
 
 
+ASKED, TXT = "x.example. TXT", ["x.example. 60 TXT a", "x.example. 30 CH TXT a"]
+LED_AWAY, CH_SOA = "x.example. 60 CH CNAME x.", SOA.replace(" SOA ", " CH SOA ")
+NO_SOA = "It gives no negative answer: its authority section has no SOA record"
+# What a response has, with records of another class than its question's; what is to be said of it,
+# and what is not.
+CLASSES = [
+    ((0x8000, ASKED, TXT), "the set x.example. TXT (1 record), for 60 seconds", "left out"),
+    ((0x8000, "x.example. CH TXT", TXT[::-1]),
+     "the set x.example. TXT of class 3 (1 record), for 30 seconds", "left out"),
+    # those of the question's class have two TTLs
+    ((0x8000, ASKED, [*TXT, "x.example. 50 TXT b"]), "is left out: its TTLs differ", "Offer"),
+    ((0x8403, ASKED, [], [CH_SOA]), NO_SOA, "Offer"),
+    ((0x8400, ASKED, [LED_AWAY]), NO_SOA, "Offer"),
+    ((0x8403, ASKED, [LED_AWAY], [SOA]), "that x.example. does not exist", NO_SOA),
+]
+
+
+@pytest.mark.parametrize("response, wanted, unwanted", CLASSES)
+def test_why_leaves_out_what_is_of_another_class(trace_of, response, wanted, unwanted):
+    """Such records do not count (docs/RULES.md, "What a response offers")."""
+    octets = message(0x1234, *response)
+    run = ran("bin/why", "--json", 0, trace_of([f"response 100 example. {octets.hex()}"]))
+    text = " ".join(json.loads(run.stdout)["reasons"])
+    assert wanted in text and unwanted not in text, text
+
+
 @pytest.mark.parametrize("lines, words, status", [
     ([PUT], [1], 1), (["put"], [0], 1), ([PUT], ["--", -1], 1),
     ([PUT], ["--workers=2", 0], WRONG_ARGUMENTS)])

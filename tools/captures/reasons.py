@@ -4,8 +4,8 @@
 Each sentence names the section of the RFC from which its rule comes, or says `ours` if it is a rule
 of this cache.
 """
-from tools.messages import (NOT_FOLLOWED, NXDOMAIN, SOA, MessageFault, final_name, is_at_or_below,
-                            read, set_offer, sets_of, why_nothing)
+from tools.messages import (NOT_FOLLOWED, NXDOMAIN, SOA, MessageFault, final_name, in_own_class,
+                            is_at_or_below, read, set_offer, sets_of, why_nothing)
 from tools.model import (CAP, GLUE, IN, NEGATIVE_CAP, RECHECK, STALE_SECONDS, Key, Offer, part_of)
 from tools.names import fold, to_text
 from tools.traces import Replay
@@ -373,6 +373,7 @@ def message_told(zone, octets, count):
     if nothing:
         yield f"It offers nothing: {nothing}."
     elif message.rcode in (0, NXDOMAIN):
+        message = in_own_class(message)
         yield from left_out(message, zone)
         yield from no_negative(message, zone)
     else:
