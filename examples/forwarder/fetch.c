@@ -601,7 +601,8 @@ static struct fetch new_fetch(struct fetcher *fetcher, const struct asker *asker
 }
 
 /* Returns the waiting query that a query over UDP replaces: the same query, if it was sent again;
-   or the first query of its client, if the client already has its share of the waiting queries. */
+   or the query in the slot that its client got first, if the client already has its share of the
+   waiting queries. */
 static struct asker *older_of(const struct fetch *fetch, const struct asker *asker)
 {
     struct asker *first = NULL;
