@@ -25,10 +25,10 @@ OPTIONS = {"keys": (9_300, "keys of each kind"), "mebibytes": ([64, 512, 1280], 
 SET_OCTETS, MOST_KEYS = 320, 64 * 65_536
 OF_CACHES = (
     "The next table is for a `struct rrcache` with the limit `octets`, the default limit on keys, "
-    "and glibc's malloc. Threads stored RRsets of one address under four times as many names as the "
-    "limit allows, and swept expired keys, so most keys were evicted. The last three columns are "
-    "multiples of `octets`: what the keys at the end count; how much more memory the process had at "
-    "most (`VmHWM`) than before it opened the cache; and how much "
+    "and glibc's malloc. Threads stored RRsets of one address under four times as many names as "
+    "the limit allows, and swept expired keys, so most keys were evicted. The last three columns "
+    "are multiples of `octets`: what the keys at the end count; how much more memory the process "
+    "had at most (`VmHWM`) than before it opened the cache; and how much "
     "[SECURITY](../SECURITY.md#the-shared-cache-in-c) says to plan for.")
 
 
