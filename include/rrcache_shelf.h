@@ -1867,7 +1867,7 @@ static inline enum rrcache_status rrcache_can_tell(const struct rrcache_shelf *s
    RRCACHE_OTHER_SEED if the name was made under another seed. Returns RRCACHE_SMALL if the buffer
    is too small: `told` then contains the reply and its sizes, and no event is written. The call
    checks for RRCACHE_SMALL before RRCACHE_HISTORY_FULL and RRCACHE_MOMENT_TOO_LARGE, so a second
-   call with a large enough buffer may still fail. While the shelf does not record, the call never
+   call with a large enough buffer may still fail. While the shelf is not recording, the call never
    allocates and never returns RRCACHE_MEMORY. Needs the write lock.
 
    A reply needs at most 255 octets for its owner, plus the octets of its data. For data that
