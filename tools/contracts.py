@@ -60,7 +60,8 @@ MEANINGS = {
     "IsHashOf hash (ask_in ask).name": "the hash is that of the name",
     "IsLeanOpen self (ask_in ask).moment":
         "the event numbers are not spent, and the timestamp is at most 2^40",
-    "IsPick self (ask_in ask) pick": "`judge` would return this pick for the ask",
+    "IsPick self (ask_in ask) pick":
+        "to move the entry of the pick to the front is to move the entry that answers the ask",
     "self.records ≡ false": "the shelf does not record",
     "AreLasting self": "the part holds no entry that is fully expired at every timestamp",
     "IsPassOf self pass": "the pass belongs to this table of marks",
