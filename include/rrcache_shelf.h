@@ -1811,13 +1811,13 @@ static inline enum rrcache_status rrcache_offer_negative(struct rrcache_shelf *s
 }
 
 /* Offers a resolution failure of a name, a class and a type (RFC 9520). A failure is always stored,
-   so `outcome` is RRCACHE_KEPT. A failure with `ttl` 0 replaces the failure that the shelf holds
-   for the name, class and type, and so ends that failure. No ask or peek returns a failure with
-   `ttl` 0. Such a failure occupies a key even if there is no failure to end, and may then evict
-   another key. So offer a failure with `ttl` 0 only after a call has returned RRCACHE_FAILED.
-   Returns RRCACHE_BAD_TYPE if data of the type are not kept in the class, RRCACHE_BAD_NAME if the
-   name is not in wire form, and RRCACHE_WRONG_BODY if `ttl` is above 2^31 - 1. Needs the write
-   lock. */
+ * so `outcome` is RRCACHE_KEPT. A failure with `ttl` 0 replaces the failure that the shelf holds
+ * for the name, class and type, and so ends that failure. No ask or peek returns a failure with
+ * `ttl` 0. Such a failure occupies a key even if there is no failure to end, and may then evict
+ * another key. So offer a failure with `ttl` 0 only if a call has shown that the shelf holds a
+ * failure of this name, class and type, with a reply or an entry of kind RRCACHE_FAILED. Returns
+ * RRCACHE_BAD_TYPE if data of the type are not kept in the class, RRCACHE_BAD_NAME if the name is
+ * not in wire form, and RRCACHE_WRONG_BODY if `ttl` is above 2^31 - 1. Needs the write lock. */
 static inline enum rrcache_status rrcache_offer_failure(struct rrcache_shelf *shelf,
                                                         const struct rrcache_failure *failure,
                                                         uint32_t *outcome)

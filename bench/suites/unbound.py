@@ -5,11 +5,11 @@ It takes the library as bin/build-c made it, fetches the source package of Debia
 build/unbound (apt-get with lists of its own; nothing is installed), builds it (2 minutes; it needs
 libssl-dev and libexpat1-dev), and compiles bench/c/beside against both. The two run in turn on
 NAMES names with one A record each, in random order, in 64 shards with room for twice the names:
-asks that hit and copy, of any name and by Zipf's law, one name that is always asked, puts that
-replace, and puts that evict in a cache with no room. It is `struct rrcache`, and in runs of their
-own shelves whose locks are mutexes, spin locks, as unbound's are, or locks for readers, under which
-asks are peeks. Each ratio is that of the medians of RUNS runs; ratios count, since machines
-differ. valgrind counts the instructions and the cache misses of a call. Programs of one thread that
+asks that hit and copy, of any name and of Zipf-distributed names, one name that is always asked,
+puts that replace, and puts that evict in a cache with no room. It is `struct rrcache`, and in runs
+of their own shelves whose locks are mutexes, spin locks, as unbound's are, or locks for readers,
+under which asks are peeks. Each ratio is that of the medians of RUNS runs; ratios count, since
+machines differ. valgrind counts the instructions and the cache misses of a call. Programs of one thread that
 run side by side, each with a cache of its own, show what of the rate is the machine's. `--write`
 writes also docs/beside-unbound.svg, the rates of `struct rrcache`.
 """
@@ -59,7 +59,7 @@ OF_GROWTH = (
     "processors and the memory of the machine.")
 BOUNDS = filled(
     "In the runs of asks for one name, memos answer the asks as long as nothing changes in the "
-    "shelf of this name. A memo is an answer that a reader keeps. Asks by Zipf's law take fewer "
+    "shelf of this name. A memo is an answer that a reader keeps. Zipf-distributed asks take fewer "
     "instructions than those of unbound, but miss the second-level cache about as often. The "
     "other calls take more instructions than those of unbound, most of them in proved code. A "
     "look-up folds the name and hashes it under a secret seed, and then peeks. A store reads "
@@ -72,7 +72,7 @@ BOUNDS = filled(
     "virtual machine varies). Threads that use one cache reach less with asks that hit and with "
     "puts. They share locks, cache lines that move between processors, and blocks of memory that "
     "one thread allocates and another frees. How much each of these costs was not measured.")
-KINDS = {"hit": "asks that hit", "zipf": "asks by Zipf's law", "hot": "asks for one name",
+KINDS = {"hit": "asks that hit", "zipf": "Zipf-distributed asks", "hot": "asks for one name",
          "replace": "puts that replace", "evict": "puts that evict"}
 # How tall the picture is, how tall its highest bar, and where the bars stand.
 TALL, HIGHEST, BASE = 270, 180, 210
