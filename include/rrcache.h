@@ -58,11 +58,11 @@
      use only an equal share of `octets`, even if other shelves use less than their share. A call
      that stores data in a shelf evicts the least recently used keys of that shelf, if necessary,
      before it returns. If malloc fails during the eviction, the call still succeeds, and the next
-     call that stores data in that shelf evicts the remaining excess. `octets` covers only the keys,
-     and an allocator uses more memory for them than is counted. So plan for two and a half times
-     `octets`, and also for the memory that the next item describes. The sum is about 2.575 times
-     `octets`, plus 4 octets for each key that `keys` allows. SECURITY.md has the measurements
-     behind the factor of two and a half, and says what was not measured.
+     call that stores, forgets or sweeps entries of that shelf evicts the remaining excess. `octets`
+     covers only the keys, and an allocator uses more memory for them than is counted. So plan for
+     two and a half times `octets`, and also for the memory that the next item describes. The sum is
+     about 2.575 times `octets`, plus 4 octets for each key that `keys` allows. SECURITY.md has the
+     measurements behind the factor of two and a half, and says what was not measured.
    - In addition, `rrcache_open` allocates the places, the memos, and a filter of the names that may
      be aliases. All memos together use at most 1/16 of `octets`, and at most about 460 KiB times
      `readers`. The filter of aliases uses at most about 1/80 of `octets`, and at most 128 KiB for

@@ -203,12 +203,12 @@
      and an outranked offer is an event too. A message causes one event for each offer that is made
      from it. A trim causes one or two events for each key that it removes.
    - A new shelf does not record its history. While a shelf does not record, its events are numbered
-     but use no memory, no chapter becomes full or is closed, and there are no chapters to drop.
-     `rrcache_record` starts recording: from then on, the shelf keeps events in memory.
-     `rrcache_stop_recording` stops recording and returns the recorded chapters.
-     `rrcache_stop_and_drop` stops recording and frees the recorded chapters. No reply depends on
-     whether a shelf records. The rest of this section applies only while a shelf records, except
-     for the statements about event numbers and chapter numbers.
+     but use no memory, no chapter becomes full, and there are no chapters to drop. `rrcache_record`
+     starts recording: from then on, the shelf keeps events in memory. `rrcache_stop_recording`
+     stops recording and returns the recorded chapters. `rrcache_stop_and_drop` stops recording and
+     frees the recorded chapters. No reply depends on whether a shelf records. The rest of this
+     section applies only while a shelf records, except for the statements about event numbers and
+     chapter numbers.
    - An event uses 96 octets, plus the octets of its names and data.
    - A chapter is a segment of the history, and new events are added to the open chapter. If a call
      has to write an event and the open chapter is full, the call first closes that chapter and
@@ -219,8 +219,8 @@
      octets for each key, and copies an entry of 56 octets for each key that has been used since the
      chapter began. If the uses and removals of keys during the chapter outnumber the keys that the
      shelf held when the chapter began, the call copies the entries of all keys instead.
-     `rrcache_record`, which ends the open chapter, always copies the entries of all keys. Names,
-     data and events are not copied. A good value for `chapter`, the maximum number of events in a
+     `rrcache_record` begins a new chapter, and always copies the entries of all keys. Names, data
+     and events are not copied. A good value for `chapter`, the maximum number of events in a
      chapter, is about the number of keys in the shelf.
    - A caller that records a history should regularly take the closed chapters with
      `rrcache_take_chapters`, or drop them with `rrcache_drop_chapters`. The time to take chapters
@@ -1811,13 +1811,13 @@ static inline enum rrcache_status rrcache_offer_negative(struct rrcache_shelf *s
 }
 
 /* Offers a resolution failure of a name, a class and a type (RFC 9520). A failure is always stored,
- * so `outcome` is RRCACHE_KEPT. A failure with `ttl` 0 replaces the failure that the shelf holds
- * for the name, class and type, and so ends that failure. No ask or peek returns a failure with
- * `ttl` 0. Such a failure occupies a key even if there is no failure to end, and may then evict
- * another key. So offer a failure with `ttl` 0 only if a call has shown that the shelf holds a
- * failure of this name, class and type, with a reply or an entry of kind RRCACHE_FAILED. Returns
- * RRCACHE_BAD_TYPE if data of the type are not kept in the class, RRCACHE_BAD_NAME if the name is
- * not in wire form, and RRCACHE_WRONG_BODY if `ttl` is above 2^31 - 1. Needs the write lock. */
+   so `outcome` is RRCACHE_KEPT. A failure with `ttl` 0 replaces the failure that the shelf holds
+   for the name, class and type, and so ends that failure. No ask or peek returns a failure with
+   `ttl` 0. Such a failure occupies a key even if there is no failure to end, and may then evict
+   another key. So offer a failure with `ttl` 0 only if a call has shown that the shelf holds a
+   failure of this name, class and type, with a reply or an entry of kind RRCACHE_FAILED. Returns
+   RRCACHE_BAD_TYPE if data of the type are not kept in the class, RRCACHE_BAD_NAME if the name is
+   not in wire form, and RRCACHE_WRONG_BODY if `ttl` is above 2^31 - 1. Needs the write lock. */
 static inline enum rrcache_status rrcache_offer_failure(struct rrcache_shelf *shelf,
                                                         const struct rrcache_failure *failure,
                                                         uint32_t *outcome)
