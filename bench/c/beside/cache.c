@@ -9,9 +9,15 @@ static struct rrcache *cache;
 
 void make_cache(size_t sets)
 {
-    const struct rrcache_config config = {.octets = sets * SET_OCTETS, .shelves = SHARDS};
+    const struct rrcache_config config = {
+        .octets = sets * SET_OCTETS, .shelves = SHARDS, .seed = SEED};
     if (rrcache_open(&cache, &config) != RRCACHE_DONE)
         fail("no cache");
+}
+
+unsigned shard_of(const struct name *name)
+{
+    return part_of(name);
 }
 
 void *begin_thread(unsigned number)

@@ -27,11 +27,6 @@ typedef pthread_mutex_t lock;
 #define ASK         rrcache_ask
 #endif
 
-#define SEED                                                                                       \
-    {                                                                                              \
-        7                                                                                          \
-    }
-
 struct shelf {
     lock lock;
     struct rrcache_shelf cache;
@@ -62,17 +57,15 @@ void make_cache(size_t sets)
             fail("no shelf");
 }
 
+unsigned shard_of(const struct name *name)
+{
+    return part_of(name);
+}
+
 void *begin_thread(unsigned number)
 {
     (void)number;
     return NULL;
-}
-
-static void make_name(struct rrcache_name *made, const struct name *name)
-{
-    static const struct rrcache_parts parts = {SHARDS, SEED};
-    if (rrcache_make_name(made, name->octets, name->size, &parts) != RRCACHE_DONE)
-        fail("no name");
 }
 
 void put(void *thread, const struct name *name, unsigned turn)

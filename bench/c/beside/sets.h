@@ -1,10 +1,29 @@
 /* SPDX-License-Identifier: MIT */
-/* The RRset that rrcache stores for a name, in both forms of it. */
+/* The names and RRsets that rrcache gets, in both forms of it. */
 #ifndef SETS_H
 #define SETS_H
 
 #include "../../../tests/c/structs.h"
 #include "work.h"
+
+#define SEED                                                                                       \
+    {                                                                                              \
+        7                                                                                          \
+    }
+
+static inline void make_name(struct rrcache_name *made, const struct name *name)
+{
+    static const struct rrcache_parts parts = {SHARDS, SEED};
+    if (rrcache_make_name(made, name->octets, name->size, &parts) != RRCACHE_DONE)
+        fail("no name");
+}
+
+static inline unsigned part_of(const struct name *name)
+{
+    struct rrcache_name made = {0};
+    make_name(&made, name);
+    return (unsigned)made.part;
+}
 
 static inline struct rrcache_set address_of(const struct name *name, const uint8_t *data,
                                             size_t size)

@@ -70,6 +70,15 @@ static struct packed_rrset_data *data_of(unsigned turn)
     return data;
 }
 
+unsigned shard_of(const struct name *name)
+{
+    struct packed_rrset_key key = {.dname = (uint8_t *)name->octets,
+                                   .dname_len = name->size,
+                                   .type = htons(1),
+                                   .rrset_class = htons(1)};
+    return (unsigned)(rrset_key_hash(&key) & cache->table.mask) >> cache->table.shift;
+}
+
 void put(void *argument, const struct name *name, unsigned turn)
 {
     struct thread *thread = argument;

@@ -17,6 +17,9 @@ struct name {
 /* Makes the cache, with room for about this number of RRsets of one address. */
 void make_cache(size_t sets);
 
+/* The number of the shard of a name, below SHARDS. */
+unsigned shard_of(const struct name *name);
+
 /* What a thread needs in addition to the cache. */
 void *begin_thread(unsigned number);
 
