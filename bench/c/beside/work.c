@@ -10,6 +10,7 @@
 #include "work.h"
 
 #include <pthread.h>
+#include <stdalign.h>
 #include <stdio.h>
 #include <stdlib.h>
 #include <string.h>
@@ -22,7 +23,7 @@ enum { MOST_THREADS = 64 };
 enum kind { HIT, ZIPF, HOT, REPLACE, EVICT };
 
 struct worker {
-    pthread_t thread;
+    alignas(128) pthread_t thread; /* each call writes `seed`: two workers share no cache line */
     unsigned number;
     size_t first, count; /* its names */
     uint64_t calls, seed, processor;
