@@ -6,6 +6,7 @@
    prints the number of calls and the nanoseconds of elapsed time that they took. `bench/run c` runs
    it. */
 #include <pthread.h>
+#include <stdalign.h>
 #include <stdio.h>
 #include <stdlib.h>
 #include <string.h>
@@ -23,8 +24,8 @@ struct shelf {
 };
 
 struct worker {
-    pthread_t thread;
-    struct shelf *shelves; /* NULL if the thread is to make its own */
+    alignas(128) pthread_t thread; /* each call writes `seed`: two workers share no cache line */
+    struct shelf *shelves;         /* NULL if the thread is to make its own */
     uint64_t calls, seed, done;
     bool is_locked;
     unsigned puts; /* how many of 16 calls are puts */
