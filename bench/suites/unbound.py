@@ -9,9 +9,10 @@ asks that hit and copy, of any name and of Zipf-distributed names, one name that
 puts that replace, and puts that evict in a cache with no room. It is `struct rrcache`, and in runs
 of their own shelves whose locks are mutexes, spin locks, as unbound's are, or locks for readers,
 under which asks are peeks. Each ratio is that of the medians of RUNS runs; ratios count, since
-machines differ. valgrind counts the instructions and the cache misses of a call. Programs of one thread that
-run side by side, each with a cache of its own, show what of the rate is the machine's. `--write`
-writes also docs/beside-unbound.svg, the rates of `struct rrcache`.
+machines differ. valgrind counts the instructions and the cache misses of a call. Threads that each
+work on shards of their own show what sharing shards costs. Programs of one thread that run side by
+side, each with a cache of its own, show what of the rate is the machine's. `--write` writes also
+docs/beside-unbound.svg, the rates of `struct rrcache`.
 """
 import os
 import re
@@ -183,9 +184,14 @@ def counted(made, args):
     return table(["What", *head], rows)
 
 
-def together(program, threads, kind, args):
+def together(program, threads, kind, args, *more, **environment):
     """The rate of threads that share a cache, in calls per nanosecond."""
-    return 1 / run(program, threads, args.calls, kind, args.names)[0]
+    return 1 / run(program, threads, args.calls, kind, args.names, *more, **environment)[0]
+
+
+def on_own_shards(program, threads, kind, args):
+    """The same of threads of which no two use the same shard, or None where all use a few names."""
+    return None if kind in ("zipf", "hot") else together(program, threads, kind, args, "apart")
 
 
 def apart(program, processes, kind, args):
@@ -196,21 +202,35 @@ def apart(program, processes, kind, args):
         return sum(1 / took for took, _ in found)
 
 
-def growth(made, args):
+def ways_to_share(made, jemalloc):
+    """How threads share a cache or not, in calls that answer a rate, by the heads of columns."""
+    own, other = made["cache"], made["unbound"]
+    ways = {"rrcache: one cache": partial(together, own),
+            "own shards": partial(on_own_shards, own)}
+    if jemalloc:
+        ways["jemalloc"] = partial(together, own, LD_PRELOAD=jemalloc)
+    return ways | {"own caches": partial(apart, own),
+                   "unbound: one cache": partial(together, other),
+                   "own shards ": partial(on_own_shards, other),
+                   "own caches ": partial(apart, other)}
+
+
+def grown(rates, most):
+    """The rate of the most threads as a multiple of that of one, as text, if there are rates."""
+    return f"{median(rates[most]) / median(rates[1]):.2f}" if rates[1][0] else "-"
+
+
+def growth(made, args, jemalloc):
     """The table of the rates with the most threads, as multiples of the rates with one."""
-    rows, most = [], max(args.threads)
-    ways = {(own, way): partial(way, made[own]) for own in ("cache", "unbound")
-            for way in (together, apart)}
+    rows, most, ways = [], max(args.threads), ways_to_share(made, jemalloc)
     for kind, title in KINDS.items():
         found = in_turn(args.runs, {
             (name, count): partial(undisturbed, way, count, kind, args)
             for name, way in ways.items() for count in (1, most)})
-        rates = {name: median(each) for name, each in found.items()}
-        rows.append([title, *(f"{rates[it, most] / rates[it, 1]:.2f}" for it in ways)])
+        rows.append([title, *(grown({it: found[name, it] for it in (1, most)}, most)
+                              for name in ways)])
         print(*rows[-1], flush=True)
-    head = (f"{whose}, {way}" for whose in ("rrcache", "unbound")
-            for way in ("one cache", "own caches"))
-    return table(["What", *head], rows)
+    return table(["What", *map(str.strip, ways)], rows)
 
 
 def main(args):
@@ -235,7 +255,7 @@ def main(args):
         if way == OF_CACHE:
             parts += ["![Rates of `struct rrcache`, as multiples of unbound's](beside-unbound.svg)",
                       OF_COUNTS, counted(made, args), filled(OF_GROWTH.format(max(args.threads))),
-                      growth(made, args), BOUNDS]
+                      growth(made, args, jemalloc and str(jemalloc)), BOUNDS]
             rates = {kind: [rate for _, rate in each] for kind, each in found.items()}
     if args.write:
         (TOP / "docs" / "beside-unbound.svg").write_text(picture(rates, args.threads))
