@@ -8,28 +8,30 @@
    with one thread, or with its own locks, can use the shelves directly.
 
    SECURITY.md, "A caller's checklist", lists what a resolver itself has to do. The program
-   examples/stub.c is a complete example. A process may have several caches, for example one for
-   each view. Each cache has its own seed and limits.
+   examples/stub.c is a complete stub resolver that uses such a cache. A process may have several
+   caches, for example one for each view. Each cache has its own seed and limits.
 
    Threads
    - The library starts no threads.
-   - Any thread may call any function at any time, with two exceptions. First, when a thread calls
+   - Any thread may call any function at any time, with three exceptions. First, when a thread calls
      `rrcache_close`, no other call on the cache may be running, and no call may follow. Second, no
      function may be called in a signal handler, or in the child of a process that forked while
-     several threads ran. A call may block on a lock. If a thread is canceled during a call
-     (`pthread_cancel`, with deferred cancellation), the call ends before the thread does. If a
-     process with one thread forks, the parent and the child each have their own copy of the cache.
-     The two copies have the same seed, but neither process sees the data that the other process
-     stores. Processes cannot share a cache.
+     several threads ran. Third, the callback of `rrcache_stop_recording_all` or `rrcache_dump` must
+     not call any function on the same cache. A call may block on a lock. If a thread is canceled
+     during a call (`pthread_cancel`, with deferred cancellation), the call ends before the thread
+     does. If a process with one thread forks, the parent and the child each have their own copy of
+     the cache. The two copies have the same seed, but neither process sees the data that the other
+     process stores after the fork. Processes cannot share a cache.
    - The library chooses the shelf of a name by a hash of the name. This hash is keyed with a secret
      seed. Each shelf has `readers` places (see `struct rrcache_config`). A place is a lock that one
      thread at a time holds during a look-up. The library assigns threads to these places in turn. A
-     look-up that does not move its entry in the LRU order takes only the place of its thread or, if
-     that place is taken, another place. Such look-ups do not block each other, even for the same
-     name, if there are at least as many places as threads. A call that changes a shelf keeps new
-     look-ups out of the shelf, and waits until the look-ups that have begun are finished. No call
-     holds locks of two shelves at the same time.
-   - If a thread repeats a look-up in the same second, and the name is in lower case, the library
+     look-up that changes nothing in its shelf takes only the place of its thread or, if that place
+     is taken, another place. Such look-ups do not block each other, even for the same name, if each
+     shelf has at least as many places as there are threads. A call that changes a shelf keeps new
+     look-ups out of the shelf, and waits until the look-ups that have begun in the shelf are
+     finished. A look-up changes its shelf if, for example, it moves its entry in the LRU order (see
+     below). No call holds locks of two shelves at the same time.
+   - If a look-up is repeated with the same timestamp, and the name is in lower case, the library
      may copy the answer from a memo, which is a saved copy of an earlier answer. The library does
      so only if nothing in the shelf of the name has changed since the library gave that earlier
      answer. The library keeps memos only of negative answers and of answers with a single RRset. A
@@ -54,15 +56,16 @@
    Memory
    - An answer is a copy in the caller's buffer. The copy stays valid after the entries that it came
      from are evicted and after `rrcache_close`, and does not count toward `octets`.
-   - The keys use at most `octets` octets of memory, as `rrcache_sizes` counts them. Each shelf may
-     use only an equal share of `octets`, even if other shelves use less than their share. A call
-     that stores data in a shelf evicts the least recently used keys of that shelf, if necessary,
-     before it returns. If malloc fails during the eviction, the call still succeeds, and the next
-     call that stores, forgets or sweeps entries of that shelf evicts the remaining excess. `octets`
-     covers only the keys, and an allocator uses more memory for them than is counted. So plan for
-     two and a half times `octets`, and also for the memory that the next item describes. The sum is
-     about 2.575 times `octets`, plus 4 octets for each key that `keys` allows. SECURITY.md has the
-     measurements behind the factor of two and a half, and says what was not measured.
+   - The keys use at most `octets` octets of memory, as `rrcache_sizes` counts them, except while a
+     call stores data. Each shelf may use only an equal share of `octets`, even if other shelves use
+     less than their share. A call that stores data in a shelf evicts the least recently used keys
+     of that shelf, if necessary, before it returns. If malloc fails during the eviction, the call
+     still succeeds, and the next call that stores, forgets or sweeps entries of that shelf evicts
+     the remaining excess. `octets` covers only the keys, and an allocator may use more memory for
+     them than is counted. So plan for two and a half times `octets`, and also for the memory that
+     the next item describes. The sum is about 2.575 times `octets`, plus 4 octets for each key that
+     `keys` allows. SECURITY.md has the measurements behind the factor of two and a half, and says
+     what was not measured.
    - In addition, `rrcache_open` allocates the places, the memos, and a filter of the names that may
      be aliases. All memos together use at most 1/16 of `octets`, and at most about 460 KiB times
      `readers`. The filter of aliases uses at most about 1/80 of `octets`, and at most 128 KiB for
@@ -72,16 +75,17 @@
    - A cache has at most 64 shelves of at most 65,536 keys each, so it has at most 4,194,304 keys.
      An RRset of one address with a short name uses 320 octets. So a cache holds at most about 1.3
      GB of such RRsets, even if `octets` is larger.
-   - The configuration of an open cache cannot be changed. The library returns the memory that it
-     frees to malloc, and malloc decides whether to return this memory to the operating system.
+   - The configuration of an open cache cannot be changed. The library returns freed memory to
+     malloc, and malloc decides whether to return this memory to the operating system.
    - An RRset that would use more memory than its shelf's share of `octets` is not stored. In tests,
      the largest RRset of a response used 242,208 octets. So that each of 64 shelves can store such
      an RRset, set `octets` to at least 16 MiB. If `octets` has to be smaller, use fewer shelves.
    - Look-ups allocate memory only while histories are being recorded (`rrcache_record_all`).
-     `rrcache_next`, `rrcache_stats`, `rrcache_stats_of` and `rrcache_stats_text` never allocate. If
-     malloc fails in a call, but not during an eviction, the call returns RRCACHE_MEMORY. The
-     contents of the cache are then unchanged, with three exceptions: `rrcache_store`,
-     `rrcache_sweep_all` and `rrcache_forget` may have done part of their work.
+     `rrcache_next`, `rrcache_stats`, `rrcache_stats_of` and `rrcache_stats_text` never allocate. A
+     call returns RRCACHE_MEMORY if malloc fails, unless the call can do without the memory, as
+     during an eviction. After RRCACHE_MEMORY, the contents of the cache are unchanged, with three
+     exceptions: `rrcache_store`, `rrcache_sweep_all` and `rrcache_forget` may have done part of
+     their work.
 
    Timestamps
    - Timestamps (`moment`) are numbers of seconds, at most 2^40. If a timestamp is 0, the call uses
@@ -90,15 +94,17 @@
    - A program must either pass 0 in every call, or pass timestamps from its own clock in every
      call. That clock must never be set back. If the clock is set forward, all data suddenly become
      older: see "Timestamps" in rrcache_shelf.h. If a program passes 0 in some calls and timestamps
-     from its own clock in others, data expire too late or too early. A program that passes 0 may
-     also pass seconds of CLOCK_BOOTTIME, for example when it restores a dump, because 0 means the
-     current time of the same clock. `retry_from` is a timestamp of the clock that the program uses.
+     from its own clock in others, data expire too late or too early. There are two exceptions to
+     this rule. First, a program that passes 0 may also pass seconds of CLOCK_BOOTTIME, for example
+     when it restores a dump, because 0 means the current time of the same clock. Second, any
+     program may call `rrcache_sweep_all` at the timestamp 2^40 to empty the cache. `retry_from` is
+     a timestamp of the clock that the program uses.
 
    Errors
    - The header rrcache_shelf.h describes the wire form of names, the ownership of memory, and each
      status. On error, outputs other than answers are unmodified, unless the comment of the function
      says otherwise.
-   - A function that fills an answer empties the answer first. On error the answer stays empty: its
+   - A function that fills an answer empties the answer first. On error the answer is empty: its
      `kind` is RRCACHE_MISS, and `end` holds no name. The exception is RRCACHE_SMALL: the answer
      then contains the RRsets that fit, and `kind` and `end` are unspecified. The answer does not
      say how large a buffer is needed: make the call again with a larger buffer. If the call was
@@ -108,9 +114,9 @@
      answer. Second, the name of a query and the zone of a response may also lie in `end` of the
      answer. But if the name of a request lies in `end`, a look-up returns RRCACHE_OVERLAP.
    - Every function that returns a status returns RRCACHE_NULL if a required pointer is null.
-     RRCACHE_MEMORY means that malloc failed, RRCACHE_HISTORY_FULL that the event numbers are used
-     up, and RRCACHE_MOMENT_TOO_LARGE that a timestamp is above 2^40. The comments below do not
-     repeat these conditions.
+     RRCACHE_MEMORY means that malloc failed, RRCACHE_HISTORY_FULL that the event numbers of a shelf
+     are used up, and RRCACHE_MOMENT_TOO_LARGE that a timestamp is above 2^40. The comments below do
+     not repeat these conditions.
    - After RRCACHE_HISTORY_FULL, the shelf whose event numbers are used up can no longer store
      anything. In this case, close the cache and open a new one. At 10^9 events a second in one
      shelf, the event numbers last for 146 years.
@@ -148,7 +154,7 @@ struct rrcache_config {
     uint64_t readers;   /* the number of places of a shelf, which is the maximum number of threads
                            that can look up names in the shelf simultaneously: 1 to 64, or 0 for the
                            number of processors, but at most 16 */
-    uint64_t max_stale; /* the number of seconds past its TTL for which an RRset may be served: 0 to
+    uint64_t max_stale; /* the number of seconds for which an RRset may be served past its TTL: 0 to
                            604,800 (RFC 8767 section 4). RFC 8767 section 5 suggests 1 to 3 days */
     struct rrcache_limits limits; /* the limits for responses; for a field that is 0, the value of
                                      the same field of RRCACHE_LIMITS applies */
@@ -174,14 +180,14 @@ enum { RRCACHE_MOST_ALIASES = 16 };
 
 /* The usual size of the buffer for an answer. If a buffer is too small, the call returns
    RRCACHE_SMALL. The usual size is large enough for every answer from a look-up, with two
-   exceptions. First, a server may have sent a CNAME or DNAME RRset of several records (RFC 2181
-   section 10.1 does not allow several CNAME records). Second, the caller itself may have stored a
-   large RRset. For an answer from a look-up without `with_dnames`, a buffer of 1 MiB is always
-   large enough if all RRsets of the answer were received in responses. An answer from
-   `rrcache_store` may need more than RRCACHE_ANSWER_OCTETS in two more cases. First, the type of
-   the query may be ANY, or a type that is not kept, such as RRSIG. Second, an RRset may have more
-   than 16,384 octets of rdata. If an answer from `rrcache_store` does not fit, the data are still
-   stored, and the answer contains the RRsets that fit. */
+   exceptions. First, a server may have sent a CNAME RRset of several records, which RFC 2181
+   section 10.1 does not allow. Second, the caller itself may have stored a large RRset. For an
+   answer from a look-up, a buffer of 1 MiB is always large enough if all RRsets of the answer were
+   received in responses. An answer from `rrcache_store` may need more than RRCACHE_ANSWER_OCTETS in
+   two more cases. First, the type of the query may be ANY, or a type that is not kept, such as
+   RRSIG. Second, an RRset may have more than 16,384 octets of rdata. If an answer from
+   `rrcache_store` does not fit, the data are still stored, and the answer contains the RRsets that
+   fit. */
 enum { RRCACHE_ANSWER_OCTETS = 65536 };
 
 /* The answer to a question: a list of RRsets, which `rrcache_next` returns one by one, and a kind.
@@ -202,12 +208,13 @@ struct rrcache_answer {
     bool with_dnames;        /* set by the caller. If true, the DNAME RRset from which a CNAME
                                 record was synthesized precedes the CNAME record, provided that the
                                 DNAME RRset is cached or is in the response (RFC 6672 section 3.1).
-                                For each answer, the library looks up at most 16 possible owners of
-                                DNAME RRsets, and each counts as one more look-up */
+                                For each answer, the library tries at most 16 names as owners of
+                                DNAME RRsets. In a look-up, each of these names counts as one more
+                                look-up */
     uint64_t retry_from;     /* with RRCACHE_FAILED, the timestamp from which to try again;
-                                otherwise 0. If an answer is stale and the question has failed
-                                recently, a second look-up with RRCACHE_NO_STALE returns this
-                                timestamp */
+                                otherwise 0. If an answer is stale, a second look-up with
+                                RRCACHE_NO_STALE returns this timestamp, or 0 if no failure is
+                                recent */
     struct rrcache_name end; /* the name at the end of the CNAME chain. With RRCACHE_MISS, it is the
                                 name to query for. For a delegation, it is the owner of the NS
                                 RRset */
@@ -228,10 +235,10 @@ struct rrcache_rrset {
                                    never have the same `number`, but entries of two shelves may, and
                                    no field identifies the shelf. So a caller that keeps data about
                                    entries, such as a security status, must find these data by a
-                                   name together with `number`. The name is the owner or, in a
-                                   negative answer, `end`. In an answer from `rrcache_store`,
-                                   `number` and `age` are 0: docs/RULES.md, "DNSSEC", says how the
-                                   caller gets the number of stored data */
+                                   name together with `number`. The name is the owner or, for the
+                                   SOA record of a negative answer, `end`. In an answer from
+                                   `rrcache_store`, `number` and `age` are 0: docs/RULES.md,
+                                   "DNSSEC", says how the caller gets the number of stored data */
     size_t next;                /* the offset of the next RRset in the buffer */
 };
 
@@ -241,8 +248,8 @@ struct rrcache_report {
     struct rrcache_counts counts;
     uint64_t too_large;       /* the number of RRsets and negative answers that were left out
                                  because each would use more memory than a shelf may use */
-    struct rrcache_name name; /* the zone of a referral, or the target of an alias; otherwise
-                                 zeros */
+    struct rrcache_name name; /* for a referral, its zone; for an alias, the name to which the CNAME
+                                 chain leads; otherwise zeros */
 };
 
 /* The counters of a cache or of one shelf. Each name of a CNAME chain counts as one look-up.
@@ -269,10 +276,10 @@ enum { RRCACHE_STATS_OCTETS = 384 };
    `size` octets of the text of one shelf; `shelf` is the number of that shelf, counted from 0. The
    callback must process all these octets, and must return 0 to continue or nonzero to stop. `state`
    is the pointer that the caller passed. During the callback, the library holds no lock of a shelf,
-   but it holds the lock that guards the start and the end of recording. A call from the callback
-   that needs this lock would never return, so the callback must not call any function on this
-   cache. The callback must also return: its thread must not be canceled, and it must not call
-   `longjmp` or throw a C++ exception. */
+   but it holds the lock that guards the start and the end of recording. A call that needs this lock
+   would never return if the callback made it. So the callback must not call any function on this
+   cache. The callback must also return: it must not call `longjmp` or throw a C++ exception, and
+   its thread must not be canceled before it returns. */
 typedef int (*rrcache_shelf_sink)(void *state, uint64_t shelf, const void *octets, size_t size);
 
 /* Opens a cache, and writes a pointer to it to `*cache`. A null `config` means a configuration of
@@ -299,15 +306,16 @@ RRCACHE_API void rrcache_close(struct rrcache *cache);
    resolution of the type has failed recently for that name (RFC 8767 section 5). If resolution of
    the question itself has failed recently, this failure has two effects. First, with
    RRCACHE_STALE_IF_FAILED, stale data are acceptable for every name of the chain. Second, in every
-   mode, a miss at the end of the chain is RRCACHE_FAILED. The failure has neither effect if the
-   look-up follows a CNAME record of the question's name that was stored after the failure. If both
-   the question and `end` have failed recently, `retry_from` of the answer is the later of the two
-   timestamps. docs/RULES.md, "Serving stale data", describes the whole procedure, with the timers.
+   mode, a miss at the end of the chain is RRCACHE_FAILED; if `end` has failed recently too,
+   `retry_from` of the answer is the timestamp from which both failures have expired. The failure of
+   the question has neither effect if the look-up follows a CNAME record of the question's name that
+   was stored after the failure. docs/RULES.md, "Serving stale data", describes the whole procedure,
+   with the timers.
 
    CNAME RRsets before a miss are not yet an answer for a client: the resolver has to resolve `end`
    next, and has to answer SERVFAIL if it cannot resolve that name. The cache does not combine
-   queries: if the look-ups of several clients miss with the same `end` and type, the caller itself
-   has to send a single query for all of them.
+   queries: if look-ups for several clients miss with the same `end` and type, the caller itself has
+   to send a single query for all of them.
 
    Returns RRCACHE_BAD_NAME if the name is not in wire form, RRCACHE_BAD_CHOICE if `mode` is not a
    value of `enum rrcache_mode`, RRCACHE_BAD_TYPE if the type is 0 or the class is not kept, and
@@ -319,10 +327,11 @@ RRCACHE_API enum rrcache_status rrcache_lookup(struct rrcache *cache,
 
 /* Looks up the deepest unexpired NS RRset at or above a name. A resolver can start with the servers
    that this RRset names (RFC 1034 section 5.3.3, RFC 9156 section 2). The answer contains this
-   RRset, and `end` is its owner. If there is no such RRset, `kind` is RRCACHE_MISS. The fields
-   `rtype`, `mode` and `takes_glue` of the request are ignored. The DS RRset of a zone is in the
-   parent zone (RFC 4035 section 2.4). So for a question of type DS, pass the name without its first
-   label. The errors are those of `rrcache_lookup`, except RRCACHE_BAD_CHOICE. */
+   RRset, and `end` is its owner. If there is no such RRset, `kind` is RRCACHE_MISS. An NS RRset
+   does not count while an NXDOMAIN of its owner governs (docs/RULES.md, "What an ask answers"). The
+   fields `rtype`, `mode` and `takes_glue` of the request are ignored. The DS RRset of a zone is in
+   the parent zone (RFC 4035 section 2.4). So for a question of type DS, pass the name without its
+   first label. The errors are those of `rrcache_lookup`, except RRCACHE_BAD_CHOICE. */
 RRCACHE_API enum rrcache_status rrcache_lookup_delegation(struct rrcache *cache,
                                                           const struct rrcache_request *request,
                                                           struct rrcache_answer *answer);
@@ -339,13 +348,14 @@ RRCACHE_API bool rrcache_next(const struct rrcache_answer *answer, struct rrcach
 
    Returns RRCACHE_OTHER_QUERY if the octets do not answer the query: the caller then has to drop
    them and keep waiting (RFC 5452 section 9.1). RRCACHE_NO_QUESTION means that the server has
-   failed. RRCACHE_BAD_MESSAGE means the same, unless TC is set. A call that returns either error
-   stores nothing. A response with an RCODE other than NOERROR and NXDOMAIN, such as SERVFAIL, is
-   stored as a failure of its question. So pass such a response only when no other server is left to
-   query. The RCODE is in the low four bits of the fourth octet of the response. The call stores
-   nothing from a truncated response (TC set): send the query again over TCP. If a truncated
-   response ends inside a record, the call returns RRCACHE_BAD_MESSAGE. So if TC (the bit 0x02 of
-   the third octet) is set, RRCACHE_BAD_MESSAGE does not mean that the server has failed.
+   failed. RRCACHE_BAD_MESSAGE means the same, unless TC is set. A call that returns one of these
+   three errors stores nothing. A response with an RCODE other than NOERROR and NXDOMAIN, such as
+   SERVFAIL, is stored as a failure of its question, unless the type of the question is not kept. So
+   pass such a response only when no other server is left to query. The RCODE is in the low four
+   bits of the fourth octet of the response. The call stores nothing from a truncated response (TC
+   set): send the query again over TCP. If a truncated response ends inside a record, the call
+   returns RRCACHE_BAD_MESSAGE. So if TC (the bit 0x02 of the third octet) is set,
+   RRCACHE_BAD_MESSAGE does not mean that the server has failed.
 
    To read a response without storing it, call `rrcache_read_response` with a `struct rrcache_parts`
    that has one part and any seed other than zeros, and with limits that are not 0. That call
@@ -371,19 +381,20 @@ RRCACHE_API bool rrcache_next(const struct rrcache_answer *answer, struct rrcach
    of lower rank than the cached data. So a waiting client gets the data that the server sent. If AA
    is clear and `lowest_ttl` is not set, an RRset with unequal TTLs is left out of `answer` too. If
    that RRset contains the data of the query's type, or a CNAME record that leads to these data,
-   `kind` of `answer` is then RRCACHE_MISS. For a query of type ANY, `answer` contains all RRsets of
-   the name, except those that are left out because their TTLs are unequal. A look-up of type ANY,
-   however, never returns an RRset, because each RRset is stored under its own type. If the response
-   is stored as a failure, `kind` of `answer` is RRCACHE_FAILED. To fill `answer`, the call follows
-   at most RRCACHE_MOST_ALIASES CNAME records, and returns RRsets of any size. But the call stores
-   only relevant data, for which the limits are lower: fewer CNAME records are followed, and only
-   smaller RRsets are relevant. In `answer`, rdata of types A and AAAA may have any length. Each
-   record of a type that is not kept, such as NAPTR, is returned as a separate RRset. If the query
-   is of such a type, RRCACHE_NODATA means that, according to an SOA record, there are no data of
-   the type. If the query is of type NSEC or RRSIG, and the response has records of this type for
-   the name of the query, `answer` contains these records. No CNAME record is then followed, even if
-   the kind of the response is RRCACHE_RESPONSE_ALIAS. If only `report` contains the result, as for
-   a negative response without an SOA record, `kind` of `answer` is RRCACHE_MISS.
+   `kind` of `answer` is then RRCACHE_MISS. For a query of type ANY, `answer` contains all RRsets
+   that the answer section has for the name, except those that are left out because their TTLs are
+   unequal. A look-up of type ANY, however, never finds these RRsets, because each RRset is stored
+   under its own type. If the response is stored as a failure, `kind` of `answer` is RRCACHE_FAILED.
+   To fill `answer`, the call follows at most RRCACHE_MOST_ALIASES CNAME records, and returns RRsets
+   of any size. But the call stores only relevant data, for which the limits are lower: fewer CNAME
+   records are followed, and only smaller RRsets are relevant. In `answer`, rdata of types A and
+   AAAA may have any length. Each record of a type that is not kept, such as NAPTR, is returned as a
+   separate RRset. If the query is of such a type, RRCACHE_NODATA means that, according to an SOA
+   record, there are no data of the type. If the query is of type NSEC or RRSIG, and the answer
+   section has records of this type for the name of the query, `answer` contains these records. No
+   CNAME record is then followed, even if the kind of the response is RRCACHE_RESPONSE_ALIAS. If
+   only `report` contains the result, as for a negative response without an SOA record, `kind` of
+   `answer` is RRCACHE_MISS.
 
    If the response contains only the beginning of a CNAME chain, its kind is RRCACHE_RESPONSE_ALIAS,
    and `kind` of `answer` is RRCACHE_MISS. Keep the CNAME RRsets of this answer, and look up `end`
@@ -397,11 +408,11 @@ RRCACHE_API bool rrcache_next(const struct rrcache_answer *answer, struct rrcach
    RRCACHE_RESPONSE_ALIAS.
 
    Also returns RRCACHE_BAD_LIMITS if a limit is out of range, and RRCACHE_BAD_NAME if the zone or
-   the name of the query is not in wire form. After these errors, `report` is unmodified. Once the
-   call has read the response, it writes `report`, even if it then fails with RRCACHE_HISTORY_FULL,
-   RRCACHE_MOMENT_TOO_LARGE or RRCACHE_MEMORY. The call returns two errors only after it has stored
-   everything: RRCACHE_SMALL if the buffer of the answer is too small, and RRCACHE_BAD_DATA if a
-   record whose type is not kept cannot be read. */
+   the name of the query is not in wire form. If the call fails before it has read the response,
+   `report` is unmodified. Once the call has read the response, it writes `report`, even if it then
+   fails with RRCACHE_HISTORY_FULL, RRCACHE_MOMENT_TOO_LARGE or RRCACHE_MEMORY. The call returns two
+   errors only after it has stored everything: RRCACHE_SMALL if the buffer of the answer is too
+   small, and RRCACHE_BAD_DATA if a record whose type is not kept cannot be read. */
 RRCACHE_API enum rrcache_status rrcache_store(struct rrcache *cache,
                                               const struct rrcache_query *query,
                                               const struct rrcache_response *response,
@@ -449,14 +460,14 @@ RRCACHE_API enum rrcache_status rrcache_forget(struct rrcache *cache,
 /* Removes fully expired keys until at least `most` keys have been removed or no such key is left. A
    key is fully expired if its entry can answer no question at `moment`, not even as stale data.
    `most` must be at least 1. The call writes to `swept` how many keys it removed; `is_done` is 1 if
-   no fully expired key is left, and 0 if such a key may be left. A sweep continues in the shelf in
-   which the previous sweep ended. The call releases the locks of a shelf after every 64 keys, and
-   lets threads that wait for these locks go first. There are two exceptions: the call does not
-   release the locks while it removes keys that expire in the same second, or while the first sweep
-   of a shelf visits all its keys. A caller need not sweep, because eviction makes room. A sweep at
-   the timestamp 2^40 removes each key whose entry has a timestamp below 2^40 - 2^32, so a caller
-   with a clock such as CLOCK_BOOTTIME can empty the cache in this way. Later calls may pass smaller
-   timestamps.
+   no fully expired key is left, and 0 if such a key may be left. A sweep continues where the
+   previous sweep ended. The call releases the locks of a shelf after every 64 keys, and lets
+   threads that wait for these locks go first. There are two exceptions: the call does not release
+   the locks while it removes keys that expire in the same second, or while the first sweep of a
+   shelf visits all its keys. A caller need not sweep, because eviction makes room. A sweep at the
+   timestamp 2^40 removes each key whose entry has a timestamp below 2^40 - 2^32, so a caller with a
+   clock such as CLOCK_BOOTTIME can empty the cache in this way, if `most` is large enough. Later
+   calls may pass smaller timestamps.
 
    Returns RRCACHE_BAD_RULES if `most` is 0. May also return RRCACHE_MOMENT_TOO_LARGE,
    RRCACHE_HISTORY_FULL or RRCACHE_MEMORY; `swept` then contains the number of keys that were
@@ -471,10 +482,10 @@ RRCACHE_API enum rrcache_status rrcache_sweep_all(struct rrcache *cache, uint64_
 #pragma GCC diagnostic ignored "-Wshadow"
 #endif
 
-/* Writes to `stats` the counts since the cache was opened, and the numbers of keys and octets that
-   are held now. Each number is the sum over all shelves. The call reads one shelf after another.
-   While the call reads a shelf, look-ups in that shelf wait, as they do while a call stores data in
-   the shelf. */
+/* Writes to `stats` the counts since the cache was opened, and the current numbers of keys and of
+   octets that these keys use. Each number is the sum over all shelves. The call reads one shelf
+   after another. While the call reads a shelf, look-ups in that shelf wait, as they do while a call
+   stores data in the shelf. */
 RRCACHE_API enum rrcache_status rrcache_stats(struct rrcache *cache, struct rrcache_stats *stats);
 
 #if defined __cplusplus && defined __GNUC__
@@ -487,8 +498,8 @@ RRCACHE_API enum rrcache_status rrcache_stats_of(struct rrcache *cache, uint64_t
                                                  struct rrcache_stats *stats);
 
 /* Writes the counters of `stats` to `text` as one line for a log, for example `hits 12 stale 0 ..`.
-   The line ends with a zero octet, and has no LF. Returns RRCACHE_SMALL if the text does not fit
-   into `size` octets. */
+   The line ends with a zero octet, and has no LF. Returns RRCACHE_SMALL if the line and its zero
+   octet do not fit into `size` octets. */
 RRCACHE_API enum rrcache_status rrcache_stats_text(const struct rrcache_stats *stats, char *text,
                                                    size_t size);
 
