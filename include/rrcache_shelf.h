@@ -1,7 +1,7 @@
 /* SPDX-License-Identifier: MIT */
 /* rrcache_shelf.h: the shelves of an RRset cache for recursive DNS resolvers, for C programs that
-   do their own locking or threading. rrcache.h, which includes this header, provides a cache that
-   has its own locks and that threads can share.
+   have one thread or do their own locking. rrcache.h, which includes this header, provides a cache
+   that has its own locks and that threads can share.
 
    A *shelf* is one shard of the cache. A resolver with several threads makes 16 to 64 shelves, and
    keeps a lock for each shelf. For each question, the resolver calls `rrcache_make_name` once. This
@@ -70,7 +70,7 @@
 
    Memory
    - The library allocates memory only with malloc and realloc, and frees it only with free. If an
-     allocation fails, the call returns RRCACHE_MEMORY.
+     allocation fails, the call returns RRCACHE_MEMORY, unless the call can do without the memory.
    - The following calls never allocate and never return RRCACHE_MEMORY, even for long names:
      `rrcache_peek`, `rrcache_peek_alias`, `rrcache_tell_stored`, `rrcache_sizes`,
      `rrcache_next_expiry`, `rrcache_make_name`, `rrcache_tell_response`, `rrcache_tell_offer`,
@@ -85,16 +85,15 @@
    - For the functions of this header, 0 is not a valid purpose, mode, class, trust, kind, section,
      seed or limit. So if the caller forgets to set one of these fields, a call that uses the field
      returns an error. For the functions of rrcache.h, a seed or a limit of 0 means the default.
-   - If a call fails, the history of the shelf and the replies that the shelf gives are unchanged.
-     If the shelf records, the failed call may have closed a full chapter, but closing a chapter
-     changes neither the history nor the replies. Five functions may change the history and the
-     replies even if they fail, because they may have done part of their work: `rrcache_offer_read`,
-     `rrcache_offer_message_unchecked`, `rrcache_offer_part_unchecked`, `rrcache_sweep_some` and
-     `rrcache_trim`. These functions perform several offers, sweeps or evictions, one after another.
-     If one of these steps fails, the earlier steps are not undone. The output `counts` then reports
-     how many of the earlier offers had each outcome, and the output `swept` reports how many keys
-     the earlier sweeps removed. If `rrcache_write_chapter` or `rrcache_write_line` fails, it may
-     have written the beginning of the text.
+   - If a call fails, the history of the shelf and the replies that the shelf gives are unchanged,
+     with five exceptions: `rrcache_offer_read`, `rrcache_offer_message_unchecked`,
+     `rrcache_offer_part_unchecked`, `rrcache_sweep_some` and `rrcache_trim`. These functions
+     perform several offers, sweeps or evictions, one after another. If one of these steps fails,
+     the earlier steps are not undone. The output `counts` then reports how many of the earlier
+     offers had each outcome, and the output `swept` reports how many keys the earlier sweeps
+     removed. If the shelf records, a failed call may have closed a full chapter, but closing a
+     chapter changes neither the history nor the replies. If `rrcache_write_chapter` or
+     `rrcache_write_line` fails, it may have written the beginning of the text.
    - If `rrcache_take_chapters` fails, the chapters stay in the shelf. If `rrcache_stop_recording`
      fails, the shelf continues to record.
    - If a call fails, its outputs are unmodified, with two exceptions. A call that returns
@@ -120,14 +119,15 @@
    - To follow a CNAME chain from shelf to shelf, call `rrcache_ask_alias` for each name of the
      chain, under the lock of that name's shelf. The caller must limit the number of CNAME records
      that it follows. This limit also ends loops. Each RRset of the chain has its own TTL.
-   - `rrcache_offer_message_unchecked` offers all data of a message to one shelf. Use this function
-     only if the cache has a single shelf.
+   - `rrcache_offer_message_unchecked` offers to one shelf all data of a message that are in
+     bailiwick. Use this function only if the cache has a single shelf.
 
    What is stored
    - `rrcache_read_response` reads from a message only the data that are relevant to the resolver's
      query. The call rejects a message whose identifier or question differs from that of the query.
-     Use this function for all messages from servers. The caller must check the address and port
-     that a message came from.
+     Use this function for all messages from servers. The caller must check that a message comes
+     from the address and port to which the query was sent, and that it arrives at the address and
+     port from which the query was sent.
    - A resolver that parses responses itself passes the parsed RRsets, with their sections, to
      `rrcache_compose_response`. This function writes them as a message, which the resolver then
      reads like any other message.
@@ -157,30 +157,33 @@
      question may be a miss. Apart from evictions, there are six possible causes: the answer is at
      the end of a CNAME chain, or the chain is too long; the TTL is 0; the type is not kept; the
      records of an RRset have different TTLs, AA is clear and `lowest_ttl` is not set; the response
-     is negative but has no SOA record; or the RRset is not relevant. Even then,
-     `rrcache_tell_response` returns the kind of the response, and `rrcache_tell_offer` returns each
-     offer, including an RRset with TTL 0. The caller can answer the waiting client from the output
-     of these calls. The caller has to parse the message only if it needs data that are not offered,
-     such as data of a type that is not kept.
-   - If nothing is stored from a message that answers its question, a failure that is cached for the
-     question is still returned as RRCACHE_FAILED until the failure expires. To end the failure
-     earlier, call `rrcache_offer_failure` with `ttl` 0.
+     is negative but has no suitable SOA record (docs/RULES.md, "What a response offers"); or the
+     RRset is not relevant. Even then, `rrcache_tell_response` returns the kind of the response, and
+     `rrcache_tell_offer` returns each offer, including an RRset with TTL 0. The caller can answer
+     the waiting client from the output of these calls. The caller has to parse the message only if
+     it needs data that are not offered, such as data of a type that is not kept.
+   - If a message answers its question, but nothing from it is stored for the question, the message
+     does not end a failure that is cached for the question. A miss is then still RRCACHE_FAILED
+     until the failure expires. To end the failure earlier, call `rrcache_offer_failure` with `ttl`
+     0.
    - A message from which nothing is stored does not change a cached RRset, unless an offer of the
      message has TTL 0 and clears the RRset. The unchanged RRset may still be returned, even as a
      stale answer. But under RFC 8767 section 4, an authoritative response (AA set) with RCODE
-     NOERROR or NXDOMAIN counts as a refresh, and the old RRset should no longer be returned. So
-     after such a response, the resolver calls `rrcache_offer_set` with `ttl` 0 to clear the RRset.
-   - If the RCODE of a response is neither NOERROR nor NXDOMAIN, a failure of its question is
-     offered, even if the RCODE is FORMERR, NOTIMP or REFUSED. If no cached data may answer the
-     question, the reply is then RRCACHE_FAILED until the failure expires or a later entry for the
-     question is stored. So offer such a response only when the resolver can neither query another
-     server nor try again without EDNS.
+     NOERROR or NXDOMAIN counts as a refresh, and the old RRset should no longer be returned. So if
+     nothing is stored from such a response, the resolver calls `rrcache_offer_set` with `ttl` 0 and
+     RRCACHE_AUTHORITATIVE_ANSWER to clear the RRset.
+   - If the RCODE of a response is neither NOERROR nor NXDOMAIN, and the type of its question is
+     kept, a failure of the question is offered, even if the RCODE is FORMERR, NOTIMP or REFUSED. If
+     no cached data may answer the question, the reply is then RRCACHE_FAILED until the failure
+     expires or a later entry for the question is stored. So offer such a response only when the
+     resolver can neither query another server nor try again without EDNS.
    - If a message has more new keys than fit in the shelf, the later keys of the message evict some
      of its earlier keys.
 
    Timestamps
    - Timestamps (`moment`) are numbers of seconds, at most 2^40. The caller supplies them, because
-     the library reads no clock. The timestamp of a call may be lower than that of a previous call.
+     the functions of this header read no clock. The timestamp of a call may be lower than that of a
+     previous call.
    - The age of an entry is the timestamp of the call minus the timestamp of the entry. If the
      timestamp of the call is lower than that of the entry, the age is 0, and `left` is the whole
      TTL of the entry. The field `age` of `struct rrcache_entry` is not this age, but a number of
@@ -205,10 +208,10 @@
    - A new shelf does not record its history. While a shelf does not record, its events are numbered
      but use no memory, no chapter becomes full, and there are no chapters to drop. `rrcache_record`
      starts recording: from then on, the shelf keeps events in memory. `rrcache_stop_recording`
-     stops recording and returns the recorded chapters. `rrcache_stop_and_drop` stops recording and
-     frees the recorded chapters. No reply depends on whether a shelf records. The rest of this
-     section applies only while a shelf records, except for the statements about event numbers and
-     chapter numbers.
+     stops recording and returns the recorded chapters that have not been taken or dropped.
+     `rrcache_stop_and_drop` stops recording and frees these chapters. No reply depends on whether a
+     shelf records. The rest of this section applies only while a shelf records, except for the
+     statements about event numbers and chapter numbers.
    - An event uses 96 octets, plus the octets of its names and data.
    - A chapter is a segment of the history, and new events are added to the open chapter. If a call
      has to write an event and the open chapter is full, the call first closes that chapter and
@@ -226,8 +229,9 @@
      `rrcache_take_chapters`, or drop them with `rrcache_drop_chapters`. The time to take chapters
      does not depend on their number. Dropping chapters frees all their events, and all copied
      entries that are not used elsewhere. So the time to drop chapters, which is spent under the
-     lock, grows with the number of events since chapters were last dropped. This time is short if
-     the caller drops chapters often. `rrcache_free_chapters` frees taken chapters without a lock.
+     lock, grows with the number of events since chapters were last dropped or taken. This time is
+     short if the caller drops chapters often. `rrcache_free_chapters` frees taken chapters without
+     a lock.
    - `rrcache_write_chapter` writes a taken chapter as text: a first line with the number of the
      chapter and the rules of the shelf, a line for each key that was cached when the chapter began,
      and a line for each event. The text of all chapters of one recording, in the order in which
@@ -244,13 +248,14 @@
      events a second, event numbers are used up after 146 years.
 
    Which error is returned
-   - If several errors apply, the call returns the first one in this list: RRCACHE_NULL;
-     RRCACHE_OVERLAP; RRCACHE_NO_SHELF or RRCACHE_HAS_SHELF; RRCACHE_NO_OFFERS or
+   - If several errors apply, a function of this header returns the first one in this list:
+     RRCACHE_NULL; RRCACHE_OVERLAP; RRCACHE_NO_SHELF or RRCACHE_HAS_SHELF; RRCACHE_NO_OFFERS or
      RRCACHE_HAS_OFFERS; RRCACHE_NO_CHAPTERS or RRCACHE_HAS_CHAPTERS; RRCACHE_NO_LINE; RRCACHE_SINK;
      RRCACHE_BAD_RULES; RRCACHE_BAD_SEED; RRCACHE_BAD_LIMITS; RRCACHE_BAD_CHOICE; RRCACHE_BAD_TYPE;
      RRCACHE_BAD_NAME; RRCACHE_OTHER_QUERY or RRCACHE_NO_QUESTION; RRCACHE_BAD_MESSAGE or
      RRCACHE_BAD_DATA; RRCACHE_OTHER_SEED; RRCACHE_WRONG_BODY; RRCACHE_WIDE; RRCACHE_SMALL;
-     RRCACHE_HISTORY_FULL; RRCACHE_MOMENT_TOO_LARGE.
+     RRCACHE_HISTORY_FULL; RRCACHE_MOMENT_TOO_LARGE. There is one exception: `rrcache_sweep_some`
+     and `rrcache_trim` check for RRCACHE_MOMENT_TOO_LARGE before RRCACHE_HISTORY_FULL.
    - If malloc fails while a call checks for these errors, the call returns RRCACHE_MEMORY, even if
      an error for which the call has not yet checked also applies.
    - A call that offers a message checks for RRCACHE_HISTORY_FULL and RRCACHE_MOMENT_TOO_LARGE only
@@ -259,7 +264,7 @@
    - Every function that returns a status returns RRCACHE_NULL and RRCACHE_OVERLAP as described at
      the end of this comment. A function that uses the contents of a handle returns
      RRCACHE_NO_SHELF, RRCACHE_NO_OFFERS or RRCACHE_NO_CHAPTERS if the handle holds nothing. Calls
-     that allocate memory return RRCACHE_MEMORY if malloc fails. Calls that write an event return
+     that allocate memory may return RRCACHE_MEMORY. Calls that write an event return
      RRCACHE_HISTORY_FULL if event numbers or chapter numbers are used up, and
      RRCACHE_MOMENT_TOO_LARGE if the timestamp is above 2^40. The comments on most functions do not
      repeat these conditions.
@@ -267,8 +272,8 @@
    Names are in wire form (RFC 1035 section 3.1): complete, without compression pointers, and at
    most 255 octets long, including the zero octet at the end. Letters may be in upper or lower case.
    Except in `struct rrcache_place`, the field `line` of a struct is any number that the caller
-   chooses; the shelf keeps this number with the event of the call. A pointer to octets or to an
-   array may be null only if the size that is passed with the pointer is 0.
+   chooses. While a shelf records, it keeps this number with the event of the call. A pointer to
+   octets or to an array may be null only if the size that is passed with the pointer is 0.
 
    The names of the exported functions that this header declares begin with `rrc_`. These functions
    require pointers that are not null, and buffers that do not overlap. The inline functions below
@@ -320,28 +325,31 @@ enum rrcache_status {
                                      chapters" above) */
     RRCACHE_MOMENT_TOO_LARGE = 5, /* the timestamp is above 2^40 */
     RRCACHE_BAD_RULES = 6,        /* one of these is out of range: `capacity`, `chapter`,
-                                     `max_stale`, the number of parts, the part, `limit` or
-                                     `most` */
-    RRCACHE_BAD_SEED = 7,         /* all octets of the seed are 0 */
+                                     `max_stale`, the number of parts, the part, `limit` or `most`;
+                                     in rrcache.h also `octets`, `keys`, `shelves`, `readers` or the
+                                     number of a shelf */
+    RRCACHE_BAD_SEED = 7,         /* all octets of the seed are 0 and, in `rrcache_open`, the system
+                                     provides no random octets */
     RRCACHE_BAD_LIMITS = 8,       /* a field of `struct rrcache_limits` is out of range */
     RRCACHE_BAD_NAME = 9,         /* the octets are not a name in wire form, or the
                                      `struct rrcache_name` holds no name */
     RRCACHE_BAD_MESSAGE = 10,     /* the octets cannot be read as a response; `rrcache_fault`
-                                     returns the reason */
+                                     reports the reason */
     RRCACHE_BAD_CHOICE = 11,      /* no purpose, mode, kind, trust, section or RCODE has this
                                      number */
-    RRCACHE_BAD_TYPE = 12,        /* in an offer: data of the type are not kept in the class; type
-                                     OPT and the types that occur only in questions are never kept.
-                                     In a question: its class is not kept, or its type is 0. In a
-                                     parsed response or its query: a class or a type is 0 */
+    RRCACHE_BAD_TYPE = 12,        /* in an offer: data of the type are not kept in the class
+                                     (docs/RULES.md lists the kept types). In a question: its class
+                                     is not kept, or its type is 0. In a parsed response or its
+                                     query: a class or a type is 0 */
     RRCACHE_BAD_DATA = 13,        /* the rdata do not match the layout of their type, or are cut
                                      off */
     RRCACHE_WRONG_BODY = 14,      /* an RRset has no data, or a TTL is above 2^31 - 1 */
     RRCACHE_WIDE = 15,            /* a record of the reply has more than 65,535 octets of rdata,
                                      which is too many for any message, or all records of the reply
                                      together have at least 2^64 octets of rdata */
-    RRCACHE_SMALL = 16,           /* the buffer is too small: `told` or `size` reports the required
-                                     size, and no event was written */
+    RRCACHE_SMALL = 16,           /* the buffer is too small. For functions of this header, `told`
+                                     or `size` reports the required size, and no event was
+                                     written */
     RRCACHE_NULL = 17,            /* a required pointer is null (never returned by `rrc_`
                                      functions) */
     RRCACHE_NO_OFFERS = 18,       /* the handle holds no offers, or none with this number */
@@ -350,7 +358,8 @@ enum rrcache_status {
                                      of the query, the message is itself a query, or it is too short
                                      for a header */
     RRCACHE_NO_CHAPTERS = 21,     /* the handle holds no chapters */
-    RRCACHE_HAS_CHAPTERS = 22,    /* the handle already holds chapters */
+    RRCACHE_HAS_CHAPTERS = 22,    /* the handle already holds chapters or, in `rrcache_dump`,
+                                     histories are being recorded */
     RRCACHE_NO_LINE = 23,         /* there is no such chapter, or the chapter has no such line */
     RRCACHE_SINK = 24,            /* the sink returned nonzero (never returned by `rrc_`
                                      functions) */
@@ -442,19 +451,19 @@ enum rrcache_response_kind {
                                       a name for which the response neither has data nor denies that
                                       there are data: send a query for the name */
     RRCACHE_RESPONSE_FAILURE = 7,  /* the RCODE is neither NOERROR nor NXDOMAIN */
-    RRCACHE_RESPONSE_UNUSABLE = 8  /* none of the kinds above. A response has this kind if TC is
-                                      set, the opcode is not QUERY, the class of the question is not
-                                      kept, the name of the question is out of bailiwick, the CNAME
-                                      chain is a loop or has more than 16 records, or the RCODE is
-                                      NXDOMAIN although the answer section has a record of the name.
-                                      A response also has this kind if it has no data, does not deny
-                                      that there are data, and is not a referral. A server that does
-                                      not serve the zone may send such a response. A response with
-                                      AA set is not a referral, even if it has NS records whose
-                                      owner is below the zone. Data of a type that is not kept are
-                                      skipped. So for a question of any such type other than ANY, a
-                                      NOERROR response has this kind unless it is a referral or an
-                                      alias */
+    RRCACHE_RESPONSE_UNUSABLE = 8  /* none of the kinds above. For example, TC is set, the opcode is
+                                      not QUERY, the class of the question is not kept, the name of
+                                      the question is out of bailiwick, the CNAME chain is a loop or
+                                      has more than 16 records, or the RCODE is NXDOMAIN although
+                                      the answer section has a record of the name (but none of the
+                                      type). Another example is a response that has no data, does
+                                      not deny that there are data, and is not a referral. A server
+                                      that does not serve the zone may send such a response. A
+                                      response with AA set is not a referral, even if it has NS
+                                      records whose owner is below the zone. Data of a type that is
+                                      not kept are skipped. So for a question of any such type other
+                                      than ANY, a NOERROR response has this kind unless it is a
+                                      referral or an alias */
 };
 
 /* The reason why octets cannot be read as a response (`rrcache_fault`). */
@@ -462,7 +471,8 @@ enum rrcache_message_fault {
     RRCACHE_NO_FAULT = 0,         /* the octets can be read */
     RRCACHE_SHORT = 1,            /* the message ends too soon */
     RRCACHE_RESERVED_BITS = 2,    /* the top two bits of a length octet of a name are 01 or 10 */
-    RRCACHE_POINTER = 3,          /* a compression pointer does not lead to an earlier offset */
+    RRCACHE_POINTER = 3,          /* a compression pointer does not lead to an offset below the
+                                     start of its run (docs/RULES.md, "Messages") */
     RRCACHE_LONG_NAME = 4,        /* a name has more than 255 octets */
     RRCACHE_LAYOUT = 5,           /* rdata do not match the layout of their type */
     RRCACHE_NO_RESPONSE = 6,      /* QR is clear, so the message is a query */
@@ -518,7 +528,7 @@ struct rrcache_parts {
 struct rrcache_rules {
     uint64_t capacity;  /* the maximum number of keys in the shelf: 1 to 65,536 */
     uint64_t chapter;   /* the maximum number of events in a recorded chapter: 1 to 1,048,576 */
-    uint64_t max_stale; /* for how many seconds past its TTL an RRset may be served: 0 to 604,800
+    uint64_t max_stale; /* for how many seconds an RRset may be served past its TTL: 0 to 604,800
                            (RFC 8767 section 4) */
     uint8_t seed[16];   /* 16 secret random octets, not all 0, the same for all shelves of a
                            cache */
@@ -558,11 +568,11 @@ struct rrcache_entry {
                         at the front (`age` 0), an ask does not count as a use */
 };
 
-/* A reply. The first `owner_size` octets of the buffer are the owner in wire form, in the spelling
-   in which it was received. The next `data_size` octets are the rdata of all records of the RRset,
-   or of the SOA record of a negative answer. A length of two octets, high octet first, precedes the
-   rdata of each record. A reply of kind RRCACHE_MISS or RRCACHE_FAILED has neither an owner nor
-   rdata. */
+/* A reply. The first `owner_size` octets of the buffer are the owner of the RRset or, in a negative
+   answer, of the SOA record. The owner is in wire form, in the spelling in which it was received.
+   The next `data_size` octets are the rdata of all records of the RRset, or of the SOA record. A
+   length of two octets, high octet first, precedes the rdata of each record. A reply of kind
+   RRCACHE_MISS or RRCACHE_FAILED has neither an owner nor rdata. */
 struct rrcache_told {
     uint32_t kind;       /* enum rrcache_kind */
     uint32_t rtype;      /* the type of the reply: the type of the question, or CNAME (5) if
@@ -573,8 +583,8 @@ struct rrcache_told {
                             RRCACHE_FAILED */
     uint64_t retry_from; /* for RRCACHE_FAILED, the timestamp from which the resolver may try again;
                             otherwise 0. After a reply of kind RRCACHE_STALE, a peek with
-                            RRCACHE_NO_STALE returns this timestamp; for a `struct rrcache`, use a
-                            look-up with RRCACHE_NO_STALE instead */
+                            RRCACHE_NO_STALE returns this timestamp if a failure is recent; for a
+                            `struct rrcache`, use a look-up with RRCACHE_NO_STALE instead */
     uint64_t owner_size;
     uint64_t data_size;
     struct rrcache_entry entry; /* the entry that gives the reply */
@@ -609,8 +619,8 @@ struct rrcache_limits {
     uint32_t cap;          /* the maximum TTL: 1 to 604,800 (RFC 8767 section 4) */
     uint32_t negative_cap; /* the maximum TTL of a negative answer: 1 to 604,800 (RFC 2308 section
                               5) */
-    uint32_t recheck;      /* the TTL of a failure: 1 to 300 (RFC 8767 section 5, RFC 9520 section
-                              3.2) */
+    uint32_t recheck;      /* the TTL of a failure from a response: 1 to 300 (RFC 8767 section 5,
+                              RFC 9520 section 3.2) */
 };
 
 /* Default limits for a resolver. */
@@ -686,12 +696,13 @@ struct rrcache_line {
 /* ---- Arguments of functions. The field after each pointer to octets is the number of these
    octets. Use designated initializers for the structs below, so that fields left out are 0.
 
-   All structs of this header and of rrcache.h are part of the ABI of the library, because exported
+   The structs of this header and of rrcache.h are part of the ABI of the library, because exported
    functions read or write them. These structs keep their size and their fields in all versions with
-   the same soname. There is one exception: a later version of this header may add fields to `struct
-   rrcache_parsed_response`, because only an inline function reads this struct. Exported functions
-   of rrcache.h read the other structs below, but the inline functions of this header pass only the
-   fields of these structs to the library, never the structs themselves. */
+   the same soname. There are two exceptions: a later version of this header may add fields to
+   `struct rrcache_parsed_response` and to `struct rrcache_draft`, because only inline functions use
+   these two structs. Exported functions of rrcache.h read or write the other structs below, but the
+   inline functions of this header pass only the fields of these structs to the library, never the
+   structs themselves. */
 
 /* The query that a response has to answer. */
 struct rrcache_query {
@@ -716,7 +727,7 @@ struct rrcache_response {
     uint64_t moment;
     struct rrcache_limits limits;
     bool lowest_ttl;    /* for a response with AA clear: whether an RRset whose records have
-                           different TTLs is offered with the lowest of these TTLs. Other resolvers
+                           different TTLs is offered with the lowest of these TTLs. BIND and unbound
                            store such an RRset with its lowest TTL. If this field is not set, such
                            an RRset is left out (RFC 2181 section 5.2) */
     bool clears_denied; /* whether an authoritative NXDOMAIN clears the data of the denied name for
@@ -805,10 +816,11 @@ typedef int (*rrcache_sink)(void *state, const void *octets, size_t size);
 /* The numbers of octets that `rrcache_sizes` adds up. RRCACHE_ENTRY_OCTETS is for a key, including
    its positions in the LRU order, the map of keys and the expiry queue. RRCACHE_VALUE_OCTETS is for
    a name, the rdata of a record, or a list of several records. RRCACHE_VALUE_OCTETS includes room
-   for RRCACHE_INLINE_OCTETS octets of the name or rdata. A longer name, longer rdata, or a list
-   needs a separate block of memory, for which RRCACHE_BLOCK_OCTETS is added. RRCACHE_SHARED_OCTETS
-   is for the reference count of a name or of the data of a key, and for the block of memory that
-   contains this count. */
+   for RRCACHE_INLINE_OCTETS octets of the name or rdata. If the name or rdata are longer, they need
+   a separate block of memory, for which RRCACHE_BLOCK_OCTETS and their size are added. A list of
+   several records needs such a block too, for which only RRCACHE_BLOCK_OCTETS is added.
+   RRCACHE_SHARED_OCTETS is for the reference count of a name or of the data of a key, and for the
+   block of memory that contains this count. */
 enum {
     RRCACHE_ENTRY_OCTETS = 160,
     RRCACHE_VALUE_OCTETS = 48,
@@ -1058,7 +1070,7 @@ static inline bool rrcache_holds(const struct rrcache_shelf *shelf, const void *
 /* Makes an empty shelf in a handle that holds no shelf. Until the caller calls `rrcache_record`,
    the shelf records nothing, and no chapter becomes full. The library hashes names with SipHash-1-3
    under the seed in the rules. The seed must be random and secret; otherwise, an attacker can slow
-   calls down by choosing names with similar hashes.
+   calls down by choosing names whose hashes collide.
 
    Returns RRCACHE_HAS_SHELF if the handle already holds a shelf, even if the rules are not valid.
    The shelf in the handle is then unchanged. Returns RRCACHE_BAD_RULES if a number in the rules is
@@ -1331,20 +1343,21 @@ static inline size_t rrcache_put_response(const struct rrcache_query *query,
    response too. `rrcache_compose_response` never allocates and needs no lock. The time that the
    call takes is linear in the number of octets of its arguments.
 
-   Before this call, the caller must check QR, the opcode, the identifier and the question of the
-   response against the query (RFC 5452 section 9.1). If `with_case` of the query is set, the caller
-   must also compare the case of the letters in the name. The new message has QR set, the opcode
-   QUERY, RD clear, and the identifier and question of the query, even if the response had other
-   values. So the new message never causes RRCACHE_OTHER_QUERY.
+   Before this call, the caller must check that the response has QR set and the opcode QUERY, and
+   must compare its identifier and question with those of the query (RFC 5452 section 9.1). If
+   `with_case` of the query is set, the caller must also compare the case of the letters in the
+   name. The new message has QR set, the opcode QUERY, RD clear, and the identifier and question of
+   the query, even if the response had other values. So reading the new message with the same query
+   never causes RRCACHE_OTHER_QUERY.
 
    In the message, the RRsets of a section are in the order of the array `sets`, and the records of
    an RRset are in the order of its data. If the records of an RRset have different TTLs, pass one
    `struct rrcache_parsed_set` for each record. When the message is read, all sets with the same
-   owner, type and class in a section become one RRset. Records that cause no offer, such as an OPT
-   record, may be left out. If data do not match the layout of their type, the call that reads the
-   message returns RRCACHE_BAD_MESSAGE. Names in the data must not have compression pointers,
-   because a pointer would lead to a wrong offset in the new message. The call does not check for
-   such pointers.
+   owner, type and class in a section become one RRset. An OPT record may be left out, because it
+   causes no offer. If data do not match the layout of their type, the call that reads the message
+   returns RRCACHE_BAD_MESSAGE. Names in the data must not have compression pointers, because a
+   pointer would lead to a wrong offset in the new message. The call does not check for such
+   pointers.
 
    Returns RRCACHE_BAD_CHOICE if the section of a set does not exist or the RCODE is above 15;
    RRCACHE_BAD_TYPE if a type or a class is 0, in a set or in the query (RFC 6895 reserves type 0
@@ -1442,7 +1455,8 @@ static inline enum rrcache_status rrcache_can_read(const struct rrcache_response
      apart from that, the names are in the order of the first records of their RRsets. A name that
      occurs several times counts only once. A name that is out of bailiwick counts too, although its
      addresses are left out.
-   - A negative answer or a failure is always relevant.
+   - A negative answer or a failure is always relevant. If `clears_denied` is set, the offers with
+     which an NXDOMAIN clears data are relevant too.
 
    The following RRsets are not relevant:
    - A DS RRset whose owner is `zone` itself, because the DS RRset of a zone is in the parent zone
@@ -1452,7 +1466,7 @@ static inline enum rrcache_status rrcache_can_read(const struct rrcache_response
      RRset is below `zone`. This restriction prevents the servers of a zone from renewing the
      delegation of the zone with NS records that they add to the authority section of other
      responses. But a repeated referral renews its NS RRset. To make a delegation end when the TTL
-     of its first referral runs out, the caller peeks for the NS RRset of each referral before it
+     from its first referral runs out, the caller peeks for the NS RRset of each referral before it
      makes the offers of that referral. If an unexpired NS RRset with the same data is cached, the
      caller does not make the offers for the part to which the owner of this RRset belongs.
    - An RRset with more than 16,384 octets of rdata.
@@ -1647,11 +1661,11 @@ static inline enum rrcache_status rrcache_tell_octets(const struct rrcache_name 
     return RRCACHE_DONE;
 }
 
-/* Makes to `shelf` one of the offers that a handle holds, and writes the outcome (`enum
-   rrcache_outcome`) to `outcome`. With this call, a caller that decides for itself which data to
-   store, such as a validator, can make only some of the offers of a message. `pick->index` is
-   counted from 0. The shelf must be the shelf of the offer's part. This part is the `part` of the
-   name that `rrcache_tell_offer` writes. The call does not check this condition. Returns
+/* Makes one of a handle's offers to `shelf`, and writes the outcome (`enum rrcache_outcome`) to
+   `outcome`. With this call, a caller that decides for itself which data to store, such as a
+   validator, can make only some of the offers of a message. `pick->index` is counted from 0. The
+   shelf must be the shelf of the offer's part. This part is the `part` of the name that
+   `rrcache_tell_offer` writes. The call does not check that the shelf is the right one. Returns
    RRCACHE_NO_OFFERS if the handle has no offer with the number `pick->index`, and
    RRCACHE_OTHER_SEED if the seed of the shelf is not the seed with which the message was read.
    Needs the write lock of the shelf. */
@@ -1934,16 +1948,16 @@ static inline enum rrcache_status rrcache_peek(const struct rrcache_shelf *shelf
    may have NSEC and RRSIG records of its own (RFC 4035 section 2.5).
 
    If the reply is the CNAME record, the resolver then asks for the target of the record, under the
-   lock of the target's shelf. The target is the name in the first rdata. Any further rdata are
-   ignored, because a name may have only one CNAME record (RFC 2181 section 10.1).
+   lock of the target's shelf. The target is the name in the first rdata. The resolver ignores any
+   further rdata, because a name may have only one CNAME record (RFC 2181 section 10.1).
 
    A failure belongs to the name and type of the question. So with RRCACHE_STALE_IF_FAILED, an
    expired CNAME record may be returned stale only if the shelf holds a recent failure of the type
    of the question; a failure of type CNAME does not count. A failure of the question is not a
-   failure of the names to which the CNAME record leads. So if a peek for the question with
-   RRCACHE_NO_STALE returns RRCACHE_FAILED, ask for each name of the chain with RRCACHE_STALE_NOW.
-   If the shelf holds unexpired data of the type that are older than the failure, the peek returns
-   these data instead of RRCACHE_FAILED. In this case, call `rrcache_tell_stored`: it returns the
+   failure of the names to which the CNAME record leads. So if the reply to a peek for the question
+   with RRCACHE_NO_STALE has the kind RRCACHE_FAILED, ask for each name of the chain with
+   RRCACHE_STALE_NOW. If the shelf holds unexpired data of the type that are older than the failure,
+   the peek returns these data instead. In this case, call `rrcache_tell_stored`: it returns the
    failure too, and the `number` fields of the entries show whether the failure was stored after the
    data. */
 static inline enum rrcache_status rrcache_ask_alias(struct rrcache_shelf *shelf,
@@ -2043,12 +2057,13 @@ static inline enum rrcache_status rrcache_next_expiry(const struct rrcache_shelf
     return (enum rrcache_status)rrc_next_expiry(&look, moment);
 }
 
-/* Sweeps in steps, so that no call takes long. Each step is a sweep at the timestamp that
-   `rrcache_next_expiry` would then return, and is one event. The call stops when that timestamp is
-   later than `moment`, when at least `most` keys have been removed, or after `most` steps. All keys
-   that fully expire in the same second are removed in one step. There may also be steps that remove
-   no key. The call writes to `swept` the number of keys that it removed. `swept->is_done` is 1 if
-   no key is left that is fully expired at `moment`, and 0 if such a key may be left.
+/* Sweeps in steps, so that a call usually takes little time. Each step is a sweep at the timestamp
+   that `rrcache_next_expiry` would then return, and is one event. The call stops when that
+   timestamp is later than `moment`, when at least `most` keys have been removed, or after `most`
+   steps. All keys that fully expire in the same second are removed in one step, and the first sweep
+   of a shelf visits all its keys. There may also be steps that remove no key. The call writes to
+   `swept` the number of keys that it removed. `swept->is_done` is 1 if no key is left that is fully
+   expired at `moment`, and 0 if such a key may be left.
 
    Returns RRCACHE_BAD_RULES if `most` is 0. If `moment` is above 2^40, the call returns
    RRCACHE_MOMENT_TOO_LARGE before the first step. Keys that were removed before an error stay
@@ -2152,11 +2167,11 @@ static inline enum rrcache_status rrcache_take_chapters(struct rrcache_shelf *sh
    RRCACHE_HISTORY_FULL or RRCACHE_MEMORY, the shelf still records, and `rrcache_stop_and_drop` can
    stop the recording. Needs the write lock.
 
-   If this call directly follows `rrcache_record`, the handle then holds one chapter, which has no
-   events. The lines of this chapter list all entries of the shelf, so a caller can save the
-   contents of the shelf in this way. No call makes a shelf from such a chapter, but a caller can
-   offer the entries to an empty shelf, in the order of their event numbers, each with the
-   timestamp, rank and TTL from its line. */
+   If this call directly follows the call of `rrcache_record` that started the recording, the handle
+   then holds one chapter, which has no events. The lines of this chapter list all entries of the
+   shelf, so a caller can save the contents of the shelf in this way. No call makes a shelf from
+   such a chapter, but a caller can offer the entries to an empty shelf, in the order of their event
+   numbers, each with the timestamp, rank and TTL from its line. */
 static inline enum rrcache_status rrcache_stop_recording(struct rrcache_shelf *shelf,
                                                          struct rrcache_chapters *chapters,
                                                          uint64_t *count)
@@ -2167,17 +2182,16 @@ static inline enum rrcache_status rrcache_stop_recording(struct rrcache_shelf *s
     return (enum rrcache_status)rrc_stop_recording(shelf, chapters, count);
 }
 
-/* Writes a line of a chapter, starting at the octet `place->from` of the line, to the front of the
-   buffer. If the rest of the line does not fit, the call writes as much of it as fits. All fields
-   of `place` are counted from 0. The call writes to `told` the number of octets of the line,
-   including its LF, and the number of octets that it wrote to the buffer. The latter number is 0 if
-   `from` is at or after the end of the line. The text of a chapter has a first line with the number
-   of the chapter and the rules of the shelf, a line for each key that was cached when the chapter
-   began, and a line for each event. The lines have the same form as in an archive
-   (docs/FORMATS.md). Returns RRCACHE_NO_CHAPTERS if the handle holds no chapters, and
-   RRCACHE_NO_LINE if the handle has no chapter `place->chapter` or the chapter has no line
-   `place->line`. The call allocates memory for the whole line, and frees this memory before it
-   returns. Needs no lock. */
+/* Writes a line of a chapter to the front of the buffer, starting at the octet `place->from` of the
+   line. If the rest of the line does not fit, the call writes as much of it as fits. All fields of
+   `place` are counted from 0. The call writes to `told` the number of octets of the line, including
+   its LF, and the number of octets that it wrote to the buffer. The latter number is 0 if `from` is
+   at or after the end of the line. The text of a chapter has a first line with the number of the
+   chapter and the rules of the shelf, a line for each key that was cached when the chapter began,
+   and a line for each event. The lines have the same form as in an archive (docs/FORMATS.md).
+   Returns RRCACHE_NO_CHAPTERS if the handle holds no chapters, and RRCACHE_NO_LINE if the handle
+   has no chapter `place->chapter` or the chapter has no line `place->line`. The call allocates
+   memory for the whole line, and frees this memory before it returns. Needs no lock. */
 static inline enum rrcache_status rrcache_chapter_line(struct rrcache_chapters *chapters,
                                                        const struct rrcache_place *place,
                                                        uint8_t *buffer, size_t buffer_size,
@@ -2266,10 +2280,10 @@ static inline enum rrcache_status rrcache_free_chapters(struct rrcache_chapters 
    octets for the rdata of each record. An RRset of several records also uses RRCACHE_VALUE_OCTETS
    and RRCACHE_BLOCK_OCTETS. A negative answer uses RRCACHE_SHARED_OCTETS, plus the octets for the
    rdata of its SOA record. RRsets and negative answers also use the octets for the owner of their
-   records, unless the owner is spelled like the name of the key. The rdata of a record use
-   RRCACHE_VALUE_OCTETS. Rdata of more than RRCACHE_INLINE_OCTETS octets also use
-   RRCACHE_BLOCK_OCTETS plus their own size. A name uses RRCACHE_SHARED_OCTETS more than rdata of
-   the same size.
+   records, unless the owner is spelled exactly like the name of the key, which is in lower case.
+   The rdata of a record use RRCACHE_VALUE_OCTETS. Rdata of more than RRCACHE_INLINE_OCTETS octets
+   also use RRCACHE_BLOCK_OCTETS plus their own size. A name uses RRCACHE_SHARED_OCTETS more than
+   rdata of the same size.
 
    The shelf updates its counts of keys and octets whenever keys change, so the time that
    `rrcache_sizes` takes does not grow with the number of keys. The number of octets does not
