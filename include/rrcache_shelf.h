@@ -696,13 +696,12 @@ struct rrcache_line {
 /* ---- Arguments of functions. The field after each pointer to octets is the number of these
    octets. Use designated initializers for the structs below, so that fields left out are 0.
 
-   The structs of this header and of rrcache.h are part of the ABI of the library, because exported
-   functions read or write them. These structs keep their size and their fields in all versions with
-   the same soname. There are two exceptions: a later version of this header may add fields to
-   `struct rrcache_parsed_response` and to `struct rrcache_draft`, because only inline functions use
-   these two structs. Exported functions of rrcache.h read or write the other structs below, but the
-   inline functions of this header pass only the fields of these structs to the library, never the
-   structs themselves. */
+   The structs of this header and of rrcache.h that exported functions read or write are part of the
+   ABI of the library. These structs keep their size and their fields in all versions with the same
+   soname. A later version of this header may add fields to `struct rrcache_parsed_response`,
+   because only inline functions read this struct. Exported functions of rrcache.h read or write the
+   other structs below, but the inline functions of this header pass only the fields of these
+   structs to the library, never the structs themselves. */
 
 /* The query that a response has to answer. */
 struct rrcache_query {
