@@ -204,7 +204,8 @@
    History and chapters
    - The history of a shelf is a log of events. Each ask, sweep or offer that succeeds is one event,
      and an outranked offer is an event too. A message causes one event for each offer that is made
-     from it. A trim causes one or two events for each key that it removes.
+     from it. A trim causes one or two events for each key that it evicts, and one more if it begins
+     with a sweep.
    - A new shelf does not record its history. While a shelf does not record, its events are numbered
      but use no memory, no chapter becomes full, and there are no chapters to drop. `rrcache_record`
      starts recording: from then on, the shelf keeps events in memory. `rrcache_stop_recording`
