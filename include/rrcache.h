@@ -155,7 +155,7 @@ struct rrcache_config {
                            that can look up names in the shelf simultaneously: 1 to 64, or 0 for the
                            number of processors, but at most 16 */
     uint64_t max_stale; /* the number of seconds for which an RRset may be served past its TTL: 0 to
-                           604,800 (RFC 8767 section 4). RFC 8767 section 5 suggests 1 to 3 days */
+                           604,800, which is a week. RFC 8767 section 5 suggests 1 to 3 days */
     struct rrcache_limits limits; /* the limits for responses; for a field that is 0, the value of
                                      the same field of RRCACHE_LIMITS applies */
     uint8_t seed[16];             /* 16 secret random octets, or zeros for random octets from the

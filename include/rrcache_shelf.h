@@ -529,8 +529,8 @@ struct rrcache_parts {
 struct rrcache_rules {
     uint64_t capacity;  /* the maximum number of keys in the shelf: 1 to 65,536 */
     uint64_t chapter;   /* the maximum number of events in a recorded chapter: 1 to 1,048,576 */
-    uint64_t max_stale; /* for how many seconds an RRset may be served past its TTL: 0 to 604,800
-                           (RFC 8767 section 4) */
+    uint64_t max_stale; /* for how many seconds an RRset may be served past its TTL: 0 to 604,800,
+                           which is a week */
     uint8_t seed[16];   /* 16 secret random octets, not all 0, the same for all shelves of a
                            cache */
 };
@@ -2289,8 +2289,9 @@ static inline enum rrcache_status rrcache_free_chapters(struct rrcache_chapters 
    `rrcache_sizes` takes does not grow with the number of keys. The number of octets does not
    include the memory of events and chapters, which keep data even after the data have been
    replaced, evicted or swept. Nor does it include the names and expiry times of evicted keys: a
-   shelf that has been swept keeps them until these keys would have expired. If the shelf holds n
-   keys, it keeps these names and times for at most 2n + 64 evicted keys. */
+   shelf that has been swept keeps them until these keys would have expired. If the shelf held n
+   keys when data were last stored, it keeps these names and times for at most 2n + 64 evicted
+   keys. */
 static inline enum rrcache_status rrcache_sizes(const struct rrcache_shelf *shelf,
                                                 struct rrcache_usage *sizes)
 {
