@@ -59,10 +59,11 @@ def main(args):
     by_python = best("ask, through Python", args.runs, partial(python_rate, args.calls // 20))
     write_section(
         args, TITLE,
-        ". The numbers are millions of calls per second by threads in C (`bench/c/c_threads.c`). "
-        f"Each number is the best of {args.runs} runs of {args.calls:,} calls on 16 shelves with "
-        f"16,384 names. The last column is the rate of {of_threads(args.threads[-1])} divided by "
-        f"the rate of {of_threads(args.threads[0])}.",
+        ". The rates are millions of calls per second by threads in C (`bench/c/c_threads.c`). "
+        f"Each rate is the best of {args.runs} runs of {args.calls:,} calls on 16 shelves with "
+        "16,384 names. In the rows with shelves owned by each thread, each thread has 16 such "
+        f"shelves. The last column is the rate of {of_threads(args.threads[-1])} divided by the "
+        f"rate of {of_threads(args.threads[0])}.",
         table(["What", "Shelves", *map(of_threads, args.threads),
                f"{args.threads[-1]} to {args.threads[0]}"], rows),
         filled(f"Through Python (`python/rrcache`), one thread makes {by_python:,.0f} asks per "

@@ -1,9 +1,9 @@
 # SPDX-License-Identifier: MIT
-"""Tells how long clients wait while another asks for names of a hostile server.
+"""Tells how long a client waits while another asks for names of a hostile server.
 
 Build the C library first, by `bin/build-c`. The clients are those of the forwarder
-(examples/forwarder), and everything runs on loopback. OTHERS clients ask for names that are cached,
-RATE queries a second together, and their waits are taken. Meanwhile one client asks for ATTACK
+(examples/forwarder), and everything runs on loopback. One client asks for OTHERS names that are
+cached, RATE queries a second, and its waits are taken. Meanwhile another client asks for ATTACK
 names a second that nobody asked for before, all answered by a name server of this process, by one
 of these ways:
   none       nobody asks for others
@@ -36,7 +36,7 @@ from tests.forwarder.harness import Forwarder, Server  # noqa: E402
 
 NEEDS, TITLE = (ARCHIVE,), "Clients beside a hostile server"
 OPTIONS = {
-    "rate": (1000.0, "queries a second of the other clients"),
+    "rate": (1000.0, "queries a second for cached names"),
     "attack": (500.0, "names a second that the hostile client asks for"),
     "seconds": (10.0, "for how long waits are taken"),
     "way": ((), "some of the ways (default all)"),
@@ -187,15 +187,15 @@ def main(args):
         print(dict(zip(HEAD, rows[-1])), flush=True)
     write_section(
         args, TITLE,
-        f". Clients of the forwarder ask for cached names, together {args.rate:.0f} times a second "
-        f"for {args.seconds:.0f} seconds. Another client begins one second earlier, and asks for "
+        f". One client of the forwarder asks for cached names, {args.rate:.0f} times a second for "
+        f"{args.seconds:.0f} seconds. Another client begins one second earlier, and asks for "
         f"{args.attack:.0f} names a second; a hostile server answers the queries for these names. "
         "The rows differ in these names and in the answers of the server; `bench/run latency "
         "--help` describes the rows. The first three columns of numbers are the waits of the "
-        "clients that ask for cached names, in milliseconds: the median, the 99th percentile and "
-        "the longest. The next columns are the number of answers that these clients did not get, "
-        "the number of queries of the other client, the number of these queries that the forwarder "
-        "sent upstream, the processor time of the forwarder in seconds, and the growth of its "
+        "client that asks for cached names, in milliseconds: the median, the 99th percentile and "
+        "the longest. The next columns are the number of answers that this client did not get, the "
+        "number of queries of the other client, the number of these queries that were answered "
+        "after a fetch, the processor time of the forwarder in seconds, and the growth of its "
         "memory in MB. The hostile server takes processor time too, so compare the other rows with "
         "`harmless`, not with `none`.",
         table(HEAD, rows))

@@ -27,9 +27,9 @@ OF_CACHES = (
     "The next table is for a `struct rrcache` with the limit `octets`, the default limit on keys, "
     "and glibc's malloc. Threads stored RRsets of one address under four times as many names as "
     "the limit allows, and swept expired keys, so most keys were evicted. The last three columns "
-    "are multiples of `octets`: what the keys at the end count; how much more memory the process "
-    "had at most (`VmHWM`) than before it opened the cache; and how much "
-    "[SECURITY](../SECURITY.md#the-shared-cache-in-c) says to plan for.")
+    "are multiples of `octets`: the counted octets of the keys at the end; the maximum memory of "
+    "the process (`VmHWM`), less the memory that the process had before it opened the cache; and "
+    "the memory for which [SECURITY](../SECURITY.md#the-shared-cache-in-c) says to plan.")
 
 
 def allocated():
@@ -91,7 +91,7 @@ def main(args):
     write_section(
         args, TITLE,
         f". For each of {len(found['glibc']) - 1} kinds of keys, a shelf got {args.keys:,} keys. "
-        f"While it got the second half of these keys, {' and '.join(said)} the octets that "
+        f"While the shelf got the second half of these keys, {' and '.join(said)} the octets that "
         "`rrcache_sizes` returned. Names had 3 to 255 octets. RRsets had 1 to 200 records of 4 to "
         "16,000 octets. SOA records of negative answers, with their owners, had 23 to 785 octets. "
         "Each kind was measured twice: on a shelf that was never swept, and on one that was swept "

@@ -49,7 +49,7 @@ def main(args):
         slow += [name] if read > MOST * whole else []
     write_section(
         args, TITLE,
-        f". The numbers are microseconds of processor time, each the least of {args.runs} runs. "
+        f". The times are microseconds of processor time, each the least of {args.runs} runs. "
         "Each message is offered in three ways: to one shelf; to 16 shelves, but read only once "
         "(`rrcache_read_message_unchecked` and `rrcache_offer_read`); and to 16 shelves, and read "
         "anew for each shelf (`rrcache_offer_part_unchecked`). A share is the offers for one "

@@ -102,11 +102,11 @@ def main(args):
         (TOP / "docs" / "performance.svg").write_text(picture(rates))
     write_section(
         args, TITLE,
-        f". Each number is the median of {args.runs} runs, in millions of calls or lines per "
+        f". Each rate is the median of {args.runs} runs, in millions of calls or lines per "
         "second of elapsed time. A run was repeated if the host took processors away from the "
-        f"machine during the run. A run of asks or puts makes {args.calls:,} calls, counted over "
-        f"all threads, on a shared cache with {NAMES:,} names (`bench cache shared`). In a run of "
-        "a replay, the program `rrcache` reads, replays, collates and reports a trace of "
+        "machine during the run. In a run of asks or puts, all threads together make "
+        f"{args.calls:,} calls on a shared cache with {NAMES:,} names (`bench cache shared`). In a "
+        "run of a replay, the program `rrcache` reads, replays, collates and reports a trace of "
         f"{args.lines:,} lines. The last column is the rate of {of_threads(THREADS[-1])} divided "
         f"by the rate of {of_threads(THREADS[0])}.",
         "![Millions per second](performance.svg)",
@@ -114,5 +114,5 @@ def main(args):
         filled(
             f"With one thread, an ask that hits takes {lent:.0f} ns on parts without locks, and "
             f"{shared:.0f} ns on a shared cache (medians of 16 short runs of each, which "
-            f"alternated). Before rounding, the difference is {shared - lent:.0f} ns: the time to "
-            "take the lock and to find the part."))
+            f"alternated). The difference of the unrounded medians, {shared - lent:.0f} ns, is the "
+            "time to take the lock and to find the part."))

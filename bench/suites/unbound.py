@@ -41,8 +41,8 @@ ARCHIVES = ["apt-get", "indextargets", "Created-By: Packages", "Codename: bookwo
             "deb-src [signed-by=/usr/share/keyrings/debian-archive-keyring.gpg]"
             " $(REPO_URI) $(RELEASE) $(COMPONENT)"]
 OF_CACHE = filled("The first table is for `struct rrcache` with its own locks. Its look-ups follow"
-                  " aliases, but the asks of shelves in the other tables do not. In these runs, no"
-                  " name is an alias.")
+                  " aliases, but the asks in the tables for shelves do not. In these runs, no name"
+                  " is an alias.")
 # What valgrind counts of a run, and the caches of the processor that it simulates: their octets,
 # ways and the octets of a line.
 EVENTS = ("I +refs", "D1 +misses", "LLd misses")
@@ -50,29 +50,30 @@ SIMULATED = ("--cache-sim=yes", "--D1=32768,8,64", "--LL=1048576,16,64",
              "--cachegrind-out-file=/dev/null")
 FEW, MANY = 20_000, 120_000
 OF_COUNTS = filled(
-    "The next table has what one call takes on one thread, as valgrind counts it on a simulated "
+    "The next table shows what one call takes on one thread, as valgrind counts it on a simulated "
     "processor with 32 KiB of first-level cache for data and 1 MiB of second-level cache: "
-    "instructions, and misses of the cache of level 1 and of level 2.")
+    "instructions, misses of the first-level cache, and misses of the second-level cache.")
 OF_GROWTH = (
-    "The next table has the rate of {0} threads as a multiple of the rate of one thread, if all "
-    "threads use one cache; and the rate of {0} processes as a multiple of the rate of one, if "
-    "each process has one thread and its own cache. Such processes share nothing but the "
-    "processors and the memory of the machine.")
+    "The next table shows the rate of {0} threads as a multiple of the rate of one thread, if all "
+    "threads use one cache; and the rate of {0} processes as a multiple of the rate of one "
+    "process, if each process has one thread and its own cache. These processes share nothing but "
+    "the processors and the memory of the machine.")
 BOUNDS = filled(
     "In the runs of asks for one name, memos answer the asks as long as nothing changes in the "
     "shelf of this name. A memo is an answer that a reader keeps. Zipf-distributed asks take fewer "
     "instructions than those of unbound, but miss the second-level cache about as often. The "
-    "other calls take more instructions than those of unbound, most of them in proved code. A "
-    "look-up folds the name and hashes it under a secret seed, and then peeks. A store reads "
-    "and hashes the name once more, checks the rdata, and counts the octets of what it stores "
-    "and evicts. A store that evicts also takes three blocks of memory from `malloc` and frees "
-    "three, and a store that replaces takes two and frees two. Stores in which the proved call "
-    "takes a name that is already made would take fewer instructions. Processes with their own "
-    "caches reach about four times the rate of one process, so it is not the processors or the "
-    "memory of the machine that limit four threads (numbers above 4 show how much the speed of a "
-    "virtual machine varies). Threads that use one cache reach less with asks that hit and with "
-    "puts. They share locks, cache lines that move between processors, and blocks of memory that "
-    "one thread allocates and another frees. How much each of these costs was not measured.")
+    "other calls take more instructions than those of unbound, and spend most of their "
+    "instructions in proved code. A look-up folds the name and hashes it under a secret seed, and "
+    "then peeks. A store reads and hashes the name a second time, checks the rdata, and counts "
+    "the octets of what it stores and evicts. A store that evicts also takes three blocks of "
+    "memory from `malloc` and frees three, and a store that replaces takes two and frees two. A "
+    "store would take fewer instructions if the proved call took the name that was already made. "
+    "Four processes with their own caches reach about four times the rate of one process, so "
+    "neither the processors nor the memory of the machine limit four threads (numbers above 4 "
+    "show how much the speed of a virtual machine varies). Four threads that use one cache reach "
+    "less with asks that hit and with puts. They share locks, cache lines that move between "
+    "processors, and blocks of memory that one thread allocates and another frees. How much each "
+    "of these costs was not measured.")
 KINDS = {"hit": "asks that hit", "zipf": "Zipf-distributed asks", "hot": "asks for one name",
          "replace": "puts that replace", "evict": "puts that evict"}
 # How tall the picture is, how tall its highest bar, and where the bars stand.
@@ -261,9 +262,9 @@ def main(args):
         (TOP / "docs" / "beside-unbound.svg").write_text(picture(rates, args.threads))
     write_section(
         args, TITLE,
-        f". rrcache and unbound's RRset cache had {args.names:,} names with one A record each, and "
-        f"64 shards. Each number is a ratio of the medians of {args.runs} runs of each cache, with "
-        f"{args.calls:,} calls per run; the runs of the two caches alternated. Time is the "
-        "processor time of a call as a multiple of the time that a call of unbound's cache takes, "
-        "so less is better. Rate is the number of calls per second of elapsed time as a multiple "
-        "of unbound's rate, so more is better.", *parts)
+        f". rrcache and unbound's RRset cache had 64 shards each, and {args.names:,} names with "
+        f"one A record each. Each time and each rate is a ratio of the medians of {args.runs} runs "
+        f"of each cache, with {args.calls:,} calls per run; the runs of the two caches alternated. "
+        "Time is the processor time of a call as a multiple of the time that a call of unbound's "
+        "cache takes, so less is better. Rate is the number of calls per second of elapsed time as "
+        "a multiple of unbound's rate, so more is better.", *parts)
