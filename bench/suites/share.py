@@ -114,5 +114,5 @@ def main(args):
         filled(
             f"With one thread, an ask that hits takes {lent:.0f} ns on parts without locks, and "
             f"{shared:.0f} ns on a shared cache (medians of 16 short runs of each, which "
-            f"alternated). The difference of the unrounded medians, {shared - lent:.0f} ns, is the "
-            "time to take the lock and to find the part."))
+            "alternated). The difference of the two medians, before they were rounded, is "
+            f"{shared - lent:.0f} ns: the time to take the lock and to find the part."))
