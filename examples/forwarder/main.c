@@ -2,7 +2,7 @@
 /* A DNS forwarder over UDP and TCP, IPv4 and IPv6, as an example of the C library. README.md
    has the path of a query, and `--help` lists the options.
 
-   main.c       threads, each of which polls all sockets, and what is done with a query
+   main.c       threads, each of which polls all listening sockets, and what is done with a query
    options.c    the command line
    clients.c    the sockets of clients: queries come in, replies go out
    addresses.h  addresses of both families
