@@ -7,12 +7,13 @@ A `SharedCache` is a cache that threads share. It does its own locking and limit
 make only read-only calls (`peek`, `peek_alias`, `stored`, `sizes`, `next_expiry`). A `Cache` is
 several shelves, each with a Python lock. Names are text, such as "www.example.", or octets in wire
 form (RFC 1035 section 3.1). Timestamps (`moment`) and TTLs are in seconds. Rdata (`data`) are
-octets in wire form, without compressed names. A call that fails raises a subclass of `Refused`.
+octets in wire form, without compressed names. If the library returns an error, the call raises a
+subclass of `Refused`. A text that is not a name raises `NameFault`.
 
-The first call loads the library. This is the file that the environment variable RRCACHE_LIBRARY
-names, if it is set; otherwise the file that was installed with this package; otherwise
-build/librrcache.so of the repository that contains this package; otherwise the file that the
-system's loader finds.
+The first call that needs the library loads it. This is the file that the environment variable
+RRCACHE_LIBRARY names, if it is set; otherwise the file that was installed with this package;
+otherwise build/librrcache.so of the repository that contains this package; otherwise the file that
+the system's loader finds.
 """
 from .answers import Answer, AnswerSet
 from .cache import Cache
