@@ -1232,8 +1232,9 @@ static inline enum rrcache_status rrcache_can_say(const struct rrcache_query *qu
 /* The number of octets in the header of a message. The name of the question follows the header. */
 enum { RRCACHE_HEADER_OCTETS = 12 };
 
-/* A message that is being written to the front of a buffer. Octets that do not fit are counted but
-   not written, and `size` is at most RRCACHE_MESSAGE_OCTETS + 1. */
+/* A message that is being written to the front of a buffer. A piece that does not fit is counted
+   but not written. If the message gets longer than RRCACHE_MESSAGE_OCTETS, `size` stays at
+   RRCACHE_MESSAGE_OCTETS + 1. */
 struct rrcache_draft {
     uint8_t *octets;
     size_t room;
@@ -1311,8 +1312,9 @@ static inline void rrcache_put_section(struct rrcache_draft *draft,
     }
 }
 
-/* Writes as much of a message as fits, and returns the size of the whole message, at most
-   RRCACHE_MESSAGE_OCTETS + 1. */
+/* Writes the beginning of a message, as far as there is room, and returns the size of the whole
+   message, or RRCACHE_MESSAGE_OCTETS + 1 if the message would have more than RRCACHE_MESSAGE_OCTETS
+   octets. */
 static inline size_t rrcache_put_response(const struct rrcache_query *query,
                                           const struct rrcache_parsed_response *parsed,
                                           uint8_t *octets, size_t room)
