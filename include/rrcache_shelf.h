@@ -1581,12 +1581,12 @@ static inline enum rrcache_status rrcache_tell_response(struct rrcache_offers *o
 }
 
 /* Writes one of the offers of a handle to `told`, `buffer` and `name`. Offers are numbered from 0,
-   in the order of the message. The call writes the offer in the form of a reply that is given at
-   the timestamp of the response, when the whole TTL is left. So the caller can answer a waiting
-   client even with data that no shelf stores: data with TTL 0, or data of lower rank than the
-   cached data. The call writes to `name` the name of the offer: the owner of an RRset, or the name
-   of a negative answer or a failure. This name is made under the seed with which the response was
-   read, and its `part` is the part of the offer.
+   in the order in which the message makes them (docs/RULES.md, "What a response offers"). The call
+   writes the offer in the form of a reply that is given at the timestamp of the response, when the
+   whole TTL is left. So the caller can answer a waiting client even with data that no shelf stores:
+   data with TTL 0, or data of lower rank than the cached data. The call writes to `name` the name
+   of the offer: the owner of an RRset, or the name of a negative answer or a failure. This name is
+   made under the seed with which the response was read, and its `part` is the part of the offer.
 
    `told->rtype` is the type of the offer, or 0 for RRCACHE_NXDOMAIN. For RRCACHE_FAILED,
    `told->retry_from` is the timestamp at which the failure ends. `told->entry` contains the kind,

@@ -42,8 +42,8 @@ class Offers(Held):
     the object. A `with` statement frees the object at its end. Later calls raise `NoOffers`.
 
     `concerned` lists the parts, counted from 0, that have offers. Iterating over the object returns
-    each offer, in the order of the message, as a name and a reply. `part` of the name is the part
-    to which the offer belongs. The reply is the one that the offer would give at the timestamp of
+    each offer, in the order in which the message makes them, as a name and a reply. `part` of the
+    name is the part to which the offer belongs. The reply is the one that the offer would give at the timestamp of
     the response, with the whole TTL remaining. An offer is returned even if no shelf will store it.
     """
 
