@@ -29,7 +29,8 @@ OF_CACHES = (
     "the limit allows, and swept fully expired keys, so most keys were evicted. The last three "
     "columns are multiples of `octets`: the counted octets of the keys at the end; the maximum "
     "memory of the process (`VmHWM`), less the memory that the process had before it opened the "
-    "cache; and the memory for which [SECURITY](../SECURITY.md#the-shared-cache-in-c) says to plan.")
+    "cache; and the memory for which [SECURITY](../SECURITY.md#the-shared-cache-in-c) says to "
+    "plan.")
 
 
 def allocated():

@@ -43,8 +43,9 @@ class Offers(Held):
 
     `concerned` lists the parts, counted from 0, that have offers. Iterating over the object returns
     each offer, in the order in which the message makes them, as a name and a reply. `part` of the
-    name is the part to which the offer belongs. The reply is the one that the offer would give at the timestamp of
-    the response, with the whole TTL remaining. An offer is returned even if no shelf will store it.
+    name is the part to which the offer belongs. The reply is the one that the offer would give at
+    the timestamp of the response, with the whole TTL remaining. An offer is returned even if no
+    shelf will store it.
     """
 
     _kind, _freed_by = structs.Offers, "rrc_free_offers"
