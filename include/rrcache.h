@@ -153,7 +153,7 @@ struct rrcache_config {
     uint64_t shelves;   /* the number of shelves: 1 to 64, or 0 for 64 */
     uint64_t readers;   /* the number of places of a shelf, which is the maximum number of threads
                            that can look up names in the shelf simultaneously: 1 to 64, or 0 for the
-                           number of processors, but at most 16 */
+                           number of processors or 16, whichever is smaller */
     uint64_t max_stale; /* the number of seconds for which an RRset may be served past its TTL: 0 to
                            604,800, which is a week. RFC 8767 section 5 suggests 1 to 3 days */
     struct rrcache_limits limits; /* the limits for responses; for a field that is 0, the value of

@@ -2211,11 +2211,11 @@ static inline enum rrcache_status rrcache_chapter_line(struct rrcache_chapters *
                                                  buffer_size, told);
 }
 
-/* Writes a line of a chapter, including its LF, to `sink`, starting at the octet `place->from` of
-   the line. All fields of `place` are counted from 0. Each call to the sink receives
-   RRCACHE_PIECE_OCTETS octets of the line, except the last call, which receives the rest. If the
-   sink returns nonzero, `rrcache_write_line` writes nothing more and returns RRCACHE_SINK. The
-   other errors are those of `rrcache_chapter_line`. Needs no lock. */
+/* Writes a line of a chapter to `sink`, from octet `place->from` of the line to its LF. All fields
+   of `place` are counted from 0. Each call to the sink receives RRCACHE_PIECE_OCTETS octets of the
+   line, except the last call, which receives the rest. If the sink returns nonzero,
+   `rrcache_write_line` writes nothing more and returns RRCACHE_SINK. The other errors are those of
+   `rrcache_chapter_line`. Needs no lock. */
 static inline enum rrcache_status rrcache_write_line(struct rrcache_chapters *chapters,
                                                      const struct rrcache_place *place,
                                                      rrcache_sink sink, void *state)
