@@ -26,11 +26,11 @@ SET_OCTETS, MOST_KEYS = 320, 64 * 65_536
 OF_CACHES = (
     "The next table is for a `struct rrcache` with the limit `octets`, the default limit on keys, "
     "and glibc's malloc. Threads stored RRsets of one address under four times as many names as "
-    "the limit allows, and swept fully expired keys, so most keys were evicted. The last three "
-    "columns are multiples of `octets`: the counted octets of the keys at the end; the maximum "
-    "memory of the process (`VmHWM`), less the memory that the process had before it opened the "
-    "cache; and the memory for which [SECURITY](../SECURITY.md#the-shared-cache-in-c) says to "
-    "plan.")
+    "the limit allows, so most keys were evicted. The threads also swept fully expired keys. The "
+    "last three columns are multiples of `octets`: the counted octets of the keys at the end; the "
+    "maximum memory of the process (`VmHWM`), less the memory that the process had before it "
+    "opened the cache; and the memory for which [SECURITY](../SECURITY.md#the-shared-cache-in-c) "
+    "says to plan.")
 
 
 def allocated():
