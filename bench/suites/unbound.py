@@ -54,10 +54,12 @@ OF_COUNTS = filled(
     "processor with 32 KiB of first-level cache for data and 1 MiB of second-level cache: "
     "instructions, misses of the first-level cache, and misses of the second-level cache.")
 OF_GROWTH = (
-    "The next table shows the rate of {0} threads as a multiple of the rate of one thread, if all "
-    "threads use one cache; and the rate of {0} processes as a multiple of the rate of one "
-    "process, if each process has one thread and its own cache. These processes share nothing but "
-    "the processors and the memory of the machine.")
+    "The next table shows the rate of {0} threads as a multiple of the rate of one thread. *One "
+    "cache*: all threads use one cache. *Own shards*: they use one cache, but no two threads use "
+    "the same shard. *jemalloc*: they use one cache, with jemalloc instead of glibc's malloc. *Own "
+    "caches*: there are {0} processes instead of {0} threads, and each process has one thread and "
+    "its own cache. These processes share nothing but the processors and the memory of the "
+    "machine.")
 BOUNDS = filled(
     "In the runs of asks for one name, memos answer the asks as long as nothing changes in the "
     "shelf of this name. A memo is an answer that a reader keeps. Zipf-distributed asks take fewer "
