@@ -61,8 +61,8 @@ def main(args):
         args, TITLE,
         ". The rates are millions of calls per second by threads in C (`bench/c/c_threads.c`). "
         f"Each rate is the best of {args.runs} runs of {args.calls:,} calls on 16 shelves with "
-        "16,384 names. In the rows with shelves owned by each thread, each thread has 16 such "
-        f"shelves. The last column is the rate of {of_threads(args.threads[-1])} divided by the "
+        "16,384 names. In the rows for shelves owned by each thread, each thread has 16 shelves "
+        f"of its own. The last column is the rate of {of_threads(args.threads[-1])} divided by the "
         f"rate of {of_threads(args.threads[0])}.",
         table(["What", "Shelves", *map(of_threads, args.threads),
                f"{args.threads[-1]} to {args.threads[0]}"], rows),

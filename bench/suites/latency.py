@@ -42,8 +42,8 @@ OPTIONS = {
     "way": ((), "some of the ways (default all)"),
 }
 OTHERS, PARTS, TTL, FLAGS = 20, 16, 600, QR | RD | 0x480
-HEAD = ["Names", "median", "99th percentile", "longest", "missing", "queries", "asked", "processor",
-        "memory"]
+HEAD = ["Names", "median", "99th percentile", "longest", "missing", "queries", "fetched",
+        "processor", "memory"]
 # How long a client waits before an answer counts as missing.
 MOST_SECONDS = 2.0
 
@@ -190,12 +190,12 @@ def main(args):
         f". One client of the forwarder asks for cached names, {args.rate:.0f} times a second for "
         f"{args.seconds:.0f} seconds. Another client begins one second earlier, and asks for "
         f"{args.attack:.0f} names a second; a hostile server answers the queries for these names. "
-        "The rows differ in these names and in the answers of the server; `bench/run latency "
-        "--help` describes the rows. The first three columns of numbers are the waits of the "
-        "client that asks for cached names, in milliseconds: the median, the 99th percentile and "
-        "the longest. The next columns are the number of answers that this client did not get, the "
-        "number of queries of the other client, the number of these queries that were answered "
-        "after a fetch, the processor time of the forwarder in seconds, and the growth of its "
-        "memory in MB. The hostile server takes processor time too, so compare the other rows with "
-        "`harmless`, not with `none`.",
+        "The rows differ in the names that the other client asks for and in the answers of the "
+        "server; `bench/run latency --help` describes the rows. The first three columns of numbers "
+        "are the waits of the client that asks for cached names, in milliseconds: the median, the "
+        "99th percentile and the longest. The next columns are the number of answers that this "
+        "client did not get, the number of queries from the other client, the number of these "
+        "queries that were answered after a fetch, the processor time of the forwarder in seconds, "
+        "and the growth of its memory in MB. The hostile server takes processor time too, so "
+        "compare the other rows with `harmless`, not with `none`.",
         table(HEAD, rows))

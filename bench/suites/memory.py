@@ -88,12 +88,13 @@ def main(args):
         of["all"] = min(least for least, _ in of.values()), max(most for _, most in of.values())
         for what, (least, most) in of.items():
             print(f"{way:10}{what:44}{least:.2f} to {most:.2f}")
-        said.append(f"{way} held {of['all'][0]:.2f} to {of['all'][1]:.2f} times")
+        said.append(f"{of['all'][0]:.2f} to {of['all'][1]:.2f} with {way}")
     write_section(
         args, TITLE,
         f". For each of {len(found['glibc']) - 1} kinds of keys, a shelf got {args.keys:,} keys. "
-        f"While the shelf got the second half of these keys, {' and '.join(said)} the octets that "
-        "`rrcache_sizes` returned. Names had 3 to 255 octets. RRsets had 1 to 200 records of 4 to "
+        "While the shelf got the second half of these keys, the octets that the allocator had "
+        "handed out, as a multiple of the octets that `rrcache_sizes` returned, were "
+        f"{' and '.join(said)}. Names had 3 to 255 octets. RRsets had 1 to 200 records of 4 to "
         "16,000 octets. SOA records of negative answers, with their owners, had 23 to 785 octets. "
         "Each kind was measured twice: on a shelf that was never swept, and on one that was swept "
         "after every tenth offer. No key was evicted, and nothing was recorded.",

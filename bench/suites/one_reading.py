@@ -52,11 +52,11 @@ def main(args):
         f". The times are microseconds of processor time, each the least of {args.runs} runs. "
         "Each message is offered in three ways: to one shelf; to 16 shelves, but read only once "
         "(`rrcache_read_message_unchecked` and `rrcache_offer_read`); and to 16 shelves, and read "
-        "anew for each shelf (`rrcache_offer_part_unchecked`). A share is the offers for one "
-        "shelf. The last column is the time for the share that takes longest; the lock of its "
-        "shelf is held for this time. A keyed hash of a name decides which shelf has the name. "
-        "The message `usual` is an answer with the name servers of its zone, and the other "
-        "messages are hostile (`tests/hostile/attacks.py`).",
+        "anew for each shelf (`rrcache_offer_part_unchecked`). A share consists of the offers for "
+        "one shelf. The last column is the time to make the offers of the share that takes "
+        "longest; the lock of its shelf is held for this time. A keyed hash of a name decides in "
+        "which shelf the name is. The message `usual` is an answer with the name servers of its "
+        "zone, and the other messages are hostile (`tests/hostile/attacks.py`).",
         table(HEAD, rows))
     if slow:
         return f"one reading for 16 shelves takes over {MOST} times as long: {', '.join(slow)}"

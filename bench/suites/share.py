@@ -106,13 +106,13 @@ def main(args):
         "second of elapsed time. A run was repeated if the host took processors away from the "
         "machine during the run. In a run of asks or puts, all threads together make "
         f"{args.calls:,} calls on a shared cache with {NAMES:,} names (`bench cache shared`). In a "
-        "run of a replay, the program `rrcache` reads, replays, collates and reports a trace of "
-        f"{args.lines:,} lines. The last column is the rate of {of_threads(THREADS[-1])} divided "
-        f"by the rate of {of_threads(THREADS[0])}.",
+        f"replay, the program `rrcache` reads and replays a trace of {args.lines:,} lines, "
+        "collates the results, and writes the report. The last column is the rate of "
+        f"{of_threads(THREADS[-1])} divided by the rate of {of_threads(THREADS[0])}.",
         "![Millions per second](performance.svg)",
         table(["What", "Parts", *map(of_threads, THREADS), f"{THREADS[-1]} to {THREADS[0]}"], rows),
         filled(
             f"With one thread, an ask that hits takes {lent:.0f} ns on parts without locks, and "
             f"{shared:.0f} ns on a shared cache (medians of 16 short runs of each, which "
-            "alternated). The difference of the two medians, before they were rounded, is "
+            "alternated). The difference of the two medians before rounding is "
             f"{shared - lent:.0f} ns: the time to take the lock and to find the part."))

@@ -40,9 +40,9 @@ FOLDER, BESIDE = BUILD / "unbound", SOURCES / "beside"
 ARCHIVES = ["apt-get", "indextargets", "Created-By: Packages", "Codename: bookworm", "--format",
             "deb-src [signed-by=/usr/share/keyrings/debian-archive-keyring.gpg]"
             " $(REPO_URI) $(RELEASE) $(COMPONENT)"]
-OF_CACHE = filled("The first table is for `struct rrcache` with its own locks. Its look-ups follow"
-                  " aliases, but the asks in the tables for shelves do not. In these runs, no name"
-                  " is an alias.")
+OF_CACHE = filled("The first table is for `struct rrcache` with its own locks. The look-ups of a"
+                  " `struct rrcache` follow aliases, but the asks in the tables for shelves do not."
+                  " In the runs for all these tables, no name is an alias.")
 # What valgrind counts of a run, and the caches of the processor that it simulates: their octets,
 # ways and the octets of a line.
 EVENTS = ("I +refs", "D1 +misses", "LLd misses")
