@@ -8,29 +8,29 @@
    with one thread, or with its own locks, can use the shelves directly.
 
    SECURITY.md, "A caller's checklist", lists what a resolver itself has to do. The program
-   examples/stub.c is a complete stub resolver that uses such a cache. A process may have several
-   caches, for example one for each view. Each cache has its own seed and limits.
+   examples/stub.c is a complete stub resolver that uses a `struct rrcache`. A process may have
+   several caches, for example one for each view. Each cache has its own seed and limits.
 
    Threads
    - The library starts no threads.
-   - Any thread may call any function at any time, with three exceptions. First, when a thread calls
-     `rrcache_close`, no other call on the cache may be running, and no call may follow. Second, no
-     function may be called in a signal handler, or in the child of a process that forked while
-     several threads ran. Third, the callback of `rrcache_stop_recording_all` or `rrcache_dump` must
-     not call any function on the same cache. A call may block on a lock. If a thread is canceled
-     during a call (`pthread_cancel`, with deferred cancellation), the call ends before the thread
-     does. If a process with one thread forks, the parent and the child each have their own copy of
-     the cache. The two copies have the same seed, but neither process sees the data that the other
-     process stores after the fork. Processes cannot share a cache.
+   - Any thread may call any function at any time, with three exceptions. First, `rrcache_close` may
+     be called only while no other call on the cache is running, and it must be the last call on the
+     cache. Second, no function may be called in a signal handler, or in the child of a process that
+     forked while several threads ran. Third, the callback of `rrcache_stop_recording_all` or
+     `rrcache_dump` must not call any function on the same cache. A call may block on a lock. If a
+     thread is canceled during a call (`pthread_cancel`, with deferred cancellation), the call ends
+     before the thread does. If a process with one thread forks, the parent and the child each have
+     their own copy of the cache. The two copies have the same seed, but neither process sees the
+     data that the other process stores after the fork. Processes cannot share a cache.
    - The library chooses the shelf of a name by a hash of the name. This hash is keyed with a secret
      seed. Each shelf has `readers` places (see `struct rrcache_config`). A place is a lock that one
      thread at a time holds during a look-up. The library assigns threads to these places in turn. A
-     look-up that changes nothing in its shelf takes only the place of its thread or, if that place
-     is taken, another place. Such look-ups do not block each other, even for the same name, if each
-     shelf has at least as many places as there are threads. A call that changes a shelf keeps new
-     look-ups out of the shelf, and waits until the look-ups that have begun in the shelf are
-     finished. A look-up changes its shelf if, for example, it moves its entry in the LRU order (see
-     below). No call holds locks of two shelves at the same time.
+     look-up that changes nothing in its shelf takes only one place: the place of its thread or, if
+     that place is taken, another place. Such look-ups do not block each other, even for the same
+     name, if each shelf has at least as many places as there are threads. A call that changes a
+     shelf keeps new look-ups out of the shelf, and waits until the look-ups that are already
+     running in the shelf are finished. A look-up changes its shelf if, for example, it moves an
+     entry in the LRU order (see below). No call holds locks of two shelves at the same time.
    - If a look-up is repeated with the same timestamp, and the name is in lower case, the library
      may copy the answer from a memo, which is a saved copy of an earlier answer. The library does
      so only if nothing in the shelf of the name has changed since the library gave that earlier
@@ -38,7 +38,7 @@
      look-up that is answered from a memo takes no place. The result of this look-up and its effect
      on the counters are the same as without a memo.
    - ThreadSanitizer cannot see the locks in the compiled library. To run a program under
-     ThreadSanitizer, compile the files of lib/ with the same sanitizer, and link them before the
+     ThreadSanitizer, compile the files of lib/ with ThreadSanitizer too, and link them before the
      shared library. The static library contains the same functions as these files. So if you link
      the static library instead of the shared library, the linker also needs
      `-Wl,--allow-multiple-definition`. ThreadSanitizer may still falsely report races in `free`,
@@ -60,8 +60,8 @@
      call stores data. Each shelf may use only an equal share of `octets`, even if other shelves use
      less than their share. A call that stores data in a shelf evicts the least recently used keys
      of that shelf, if necessary, before it returns. If malloc fails during the eviction, the call
-     still succeeds, and the next call that stores, forgets or sweeps entries of that shelf evicts
-     the remaining excess. `octets` covers only the keys, and an allocator may use more memory for
+     still succeeds, and the next call that stores, forgets or sweeps entries of that shelf
+     completes the eviction. `octets` covers only the keys, and an allocator may use more memory for
      them than is counted. So plan for two and a half times `octets`, and also for the memory that
      the next item describes. The sum is about 2.575 times `octets`, plus 4 octets for each key that
      `keys` allows. SECURITY.md has the measurements behind the factor of two and a half, and says
@@ -78,8 +78,8 @@
    - The configuration of an open cache cannot be changed. The library returns freed memory to
      malloc, and malloc decides whether to return this memory to the operating system.
    - An RRset that would use more memory than its shelf's share of `octets` is not stored. In tests,
-     the largest RRset of a response used 242,208 octets. So that each of 64 shelves can store such
-     an RRset, set `octets` to at least 16 MiB. If `octets` has to be smaller, use fewer shelves.
+     the largest RRset of a response used 242,208 octets. To let each of 64 shelves store such an
+     RRset, set `octets` to at least 16 MiB. If `octets` has to be smaller, use fewer shelves.
    - Look-ups allocate memory only while histories are being recorded (`rrcache_record_all`).
      `rrcache_next`, `rrcache_stats`, `rrcache_stats_of` and `rrcache_stats_text` never allocate. A
      call returns RRCACHE_MEMORY if malloc fails, unless the call can do without the memory, as
@@ -88,17 +88,17 @@
      their work.
 
    Timestamps
-   - Timestamps (`moment`) are numbers of seconds, at most 2^40. If a timestamp is 0, the call uses
-     the current time of CLOCK_BOOTTIME, which cannot be set and keeps running while the machine is
+   - Timestamps (`moment`) are numbers of seconds, at most 2^40. The timestamp 0 means the current
+     time of CLOCK_BOOTTIME, a clock that cannot be set and keeps running while the machine is
      suspended.
    - A program must either pass 0 in every call, or pass timestamps from its own clock in every
-     call. That clock must never be set back. If the clock is set forward, all data suddenly become
-     older: see "Timestamps" in rrcache_shelf.h. If a program passes 0 in some calls and timestamps
-     from its own clock in others, data expire too late or too early. There are two exceptions to
-     this rule. First, a program that passes 0 may also pass seconds of CLOCK_BOOTTIME, for example
-     when it restores a dump, because 0 means the current time of the same clock. Second, any
-     program may call `rrcache_sweep_all` at the timestamp 2^40 to empty the cache. `retry_from` is
-     a timestamp of the clock that the program uses.
+     call. If a program passes 0 in some calls and timestamps from its own clock in others, data
+     expire too late or too early. The program's own clock must never be set back. If this clock is
+     set forward, all data suddenly become older: see "Timestamps" in rrcache_shelf.h. In two cases,
+     a program may pass other timestamps. First, a program that passes 0 may also pass seconds of
+     CLOCK_BOOTTIME, for example when it restores a dump, because 0 means the current time of the
+     same clock. Second, any program may call `rrcache_sweep_all` at the timestamp 2^40 to empty the
+     cache. `retry_from` of an answer is a timestamp of the clock that the program uses.
 
    Errors
    - The header rrcache_shelf.h describes the wire form of names, the ownership of memory, and each
@@ -148,16 +148,16 @@ struct rrcache;
 struct rrcache_config {
     uint64_t octets;    /* the maximum number of octets of memory that the keys use, divided equally
                            among the shelves: 65,536 to 2^46, or 0 for 64 MiB */
-    uint64_t keys;      /* the maximum number of keys, divided equally among the shelves and rounded
-                           up: at most 65,536 for each shelf, or 0 for this maximum */
+    uint64_t keys;      /* the maximum number of keys, divided equally among the shelves, with each
+                           share rounded up: at most 65,536 for each shelf, or 0 for this maximum */
     uint64_t shelves;   /* the number of shelves: 1 to 64, or 0 for 64 */
     uint64_t readers;   /* the number of places of a shelf, which is the maximum number of threads
                            that can look up names in the shelf simultaneously: 1 to 64, or 0 for the
                            number of processors or 16, whichever is smaller */
     uint64_t max_stale; /* the number of seconds for which an RRset may be served past its TTL: 0 to
                            604,800, which is a week. RFC 8767 section 5 suggests 1 to 3 days */
-    struct rrcache_limits limits; /* the limits for responses; for a field that is 0, the value of
-                                     the same field of RRCACHE_LIMITS applies */
+    struct rrcache_limits limits; /* the limits for responses; for a field that is 0, the default in
+                                     RRCACHE_LIMITS applies */
     uint8_t seed[16];             /* 16 secret random octets, or zeros for random octets from the
                                      system */
     bool exact_recency; /* whether every look-up moves its entry to the front of the LRU order */
@@ -170,7 +170,8 @@ struct rrcache_request {
     uint16_t rtype;
     uint16_t rclass;        /* enum rrcache_class */
     uint64_t moment;        /* a timestamp, or 0 for now */
-    enum rrcache_mode mode; /* when a stale answer is acceptable; `rrcache_lookup` refuses 0 */
+    enum rrcache_mode mode; /* when a stale answer is acceptable; in `rrcache_lookup`, 0 is an
+                               error */
     bool takes_glue; /* whether additional data, such as glue, are acceptable; additional data must
                         not answer a client's question (RFC 2181 section 5.4.1) */
 };
@@ -178,7 +179,7 @@ struct rrcache_request {
 /* The maximum number of CNAME records that a look-up follows. */
 enum { RRCACHE_MOST_ALIASES = 16 };
 
-/* The usual size of the buffer for an answer. If a buffer is too small, the call returns
+/* The usual size of the buffer for an answer. A call whose buffer is too small returns
    RRCACHE_SMALL. The usual size is large enough for every answer from a look-up, with two
    exceptions. First, a server may have sent a CNAME RRset of several records, which RFC 2181
    section 10.1 does not allow. Second, the caller itself may have stored a large RRset. For an
@@ -199,7 +200,8 @@ struct rrcache_answer {
     uint8_t *buffer;
     size_t room;
     size_t size;             /* the number of octets of the buffer that are used */
-    uint32_t kind;           /* enum rrcache_kind, for the name at the end of the CNAME chain */
+    uint32_t kind;           /* the kind of the reply for the name at the end of the CNAME chain:
+                                enum rrcache_kind */
     uint32_t aliases;        /* the number of CNAME RRsets that lead to `end` */
     bool is_stale;           /* at least one of the RRsets is stale */
     bool is_endless;         /* the CNAME chain is a loop, or has more than RRCACHE_MOST_ALIASES
@@ -209,8 +211,8 @@ struct rrcache_answer {
                                 record was synthesized precedes the CNAME record, provided that the
                                 DNAME RRset is cached or is in the response (RFC 6672 section 3.1).
                                 For each answer, the library tries at most 16 names as owners of
-                                DNAME RRsets. In a look-up, each of these names counts as one more
-                                look-up */
+                                DNAME RRsets. If the answer is from a look-up, each of these names
+                                counts as one more look-up in `struct rrcache_stats` */
     uint64_t retry_from;     /* with RRCACHE_FAILED, the timestamp from which to try again;
                                 otherwise 0. If an answer is stale, a second look-up with
                                 RRCACHE_NO_STALE returns this timestamp, or 0 if no failure is
@@ -238,7 +240,8 @@ struct rrcache_rrset {
                                    name together with `number`. The name is the owner or, for the
                                    SOA record of a negative answer, `end`. In an answer from
                                    `rrcache_store`, `number` and `age` are 0: docs/RULES.md,
-                                   "DNSSEC", says how the caller gets the number of stored data */
+                                   "DNSSEC", says how the caller gets the `number` of the entry that
+                                   was stored */
     size_t next;                /* the offset of the next RRset in the buffer */
 };
 
@@ -272,18 +275,19 @@ struct rrcache_stats {
 /* A buffer of this size is large enough for the text of any `struct rrcache_stats`. */
 enum { RRCACHE_STATS_OCTETS = 384 };
 
-/* The callback to which `rrcache_stop_recording_all` and `rrcache_dump` write. Each call passes
-   `size` octets of the text of one shelf; `shelf` is the number of that shelf, counted from 0. The
-   callback must process all these octets, and must return 0 to continue or nonzero to stop. `state`
-   is the pointer that the caller passed. During the callback, the library holds no lock of a shelf,
-   but it holds the lock that guards the start and the end of recording. A call that needs this lock
-   would never return if the callback made it. So the callback must not call any function on this
-   cache. The callback must also return: it must not call `longjmp` or throw a C++ exception, and
-   its thread must not be canceled before it returns. */
+/* The callback to which `rrcache_stop_recording_all` and `rrcache_dump` write. Each call of the
+   callback passes `size` octets of the text of one shelf; `shelf` is the number of that shelf,
+   counted from 0. The callback must process all these octets, and must return 0 to continue or
+   nonzero to stop. `state` is the pointer that the caller passed together with the callback. During
+   the callback, the library holds no lock of a shelf, but it holds the lock that guards the start
+   and the end of recording. If the callback made a call that needs this lock, that call would never
+   return. So the callback must not call any function on this cache. The callback must return
+   normally: it must not call `longjmp` or throw a C++ exception, and its thread must not be
+   canceled before it returns. */
 typedef int (*rrcache_shelf_sink)(void *state, uint64_t shelf, const void *octets, size_t size);
 
-/* Opens a cache, and writes a pointer to it to `*cache`. A null `config` means a configuration of
-   zeros. Close the cache with `rrcache_close`.
+/* Opens a cache, and stores a pointer to the cache in `*cache`. A null `config` means a
+   configuration of zeros. Close the cache with `rrcache_close`.
 
    Returns RRCACHE_BAD_RULES if `octets`, `keys`, `shelves`, `readers` or `max_stale` is out of
    range, RRCACHE_BAD_LIMITS if a limit is out of range, and RRCACHE_BAD_SEED if `seed` is all zeros
@@ -297,25 +301,25 @@ RRCACHE_API void rrcache_close(struct rrcache *cache);
 /* Looks up the answer to a question. The answer contains the CNAME RRsets of the CNAME chain that
    begins at the name of the question, and the reply for the name at the end of the chain: an RRset
    of the question's type, a negative answer (RRCACHE_NODATA or RRCACHE_NXDOMAIN), or a miss
-   (RRCACHE_MISS or RRCACHE_FAILED). After a miss, the answer still contains the CNAME RRsets. At
-   each name, the rule of `rrcache_ask_alias` chooses between a CNAME record and data of the type
-   (RFC 1034 section 4.3.2). For a question of type CNAME, ANY, NSEC or RRSIG, no CNAME record is
-   followed.
+   (RRCACHE_MISS or RRCACHE_FAILED). Even if the reply is a miss, the answer contains the CNAME
+   RRsets. At each name, the rule of `rrcache_ask_alias` chooses between a CNAME record and data of
+   the type (RFC 1034 section 4.3.2). For a question of type CNAME, ANY, NSEC or RRSIG, no CNAME
+   record is followed.
 
    With the mode RRCACHE_STALE_IF_FAILED, stale data are acceptable for a name of the chain if
    resolution of the type has failed recently for that name (RFC 8767 section 5). If resolution of
    the question itself has failed recently, this failure has two effects. First, with
    RRCACHE_STALE_IF_FAILED, stale data are acceptable for every name of the chain. Second, in every
-   mode, a miss at the end of the chain is RRCACHE_FAILED; if `end` has failed recently too,
-   `retry_from` of the answer is the timestamp from which both failures have expired. The failure of
-   the question has neither effect if the look-up follows a CNAME record of the question's name that
-   was stored after the failure. docs/RULES.md, "Serving stale data", describes the whole procedure,
-   with the timers.
+   mode, a miss at the end of the chain is RRCACHE_FAILED; if resolution has failed recently for
+   `end` too, `retry_from` of the answer is the timestamp from which both failures have expired. The
+   failure of the question has neither effect if the look-up follows a CNAME record that was stored
+   for the question's name after the failure. docs/RULES.md, "Serving stale data", describes the
+   whole procedure, including the timers.
 
-   CNAME RRsets before a miss are not yet an answer for a client: the resolver has to resolve `end`
-   next, and has to answer SERVFAIL if it cannot resolve that name. The cache does not combine
-   queries: if look-ups for several clients miss with the same `end` and type, the caller itself has
-   to send a single query for all of them.
+   If the reply is a miss, the CNAME RRsets alone are not an answer for a client: the resolver has
+   to resolve `end` next, and has to answer SERVFAIL if it cannot resolve that name. The cache does
+   not combine queries: if look-ups for several clients miss with the same `end` and type, the
+   caller has to make sure that it sends only one query for all of them.
 
    Returns RRCACHE_BAD_NAME if the name is not in wire form, RRCACHE_BAD_CHOICE if `mode` is not a
    value of `enum rrcache_mode`, RRCACHE_BAD_TYPE if the type is 0 or the class is not kept, and
@@ -328,10 +332,11 @@ RRCACHE_API enum rrcache_status rrcache_lookup(struct rrcache *cache,
 /* Looks up the deepest unexpired NS RRset at or above a name. A resolver can start with the servers
    that this RRset names (RFC 1034 section 5.3.3, RFC 9156 section 2). The answer contains this
    RRset, and `end` is its owner. If there is no such RRset, `kind` is RRCACHE_MISS. An NS RRset
-   does not count while an NXDOMAIN of its owner governs (docs/RULES.md, "What an ask answers"). The
-   fields `rtype`, `mode` and `takes_glue` of the request are ignored. The DS RRset of a zone is in
-   the parent zone (RFC 4035 section 2.4). So for a question of type DS, pass the name without its
-   first label. The errors are those of `rrcache_lookup`, except RRCACHE_BAD_CHOICE. */
+   does not count while an NXDOMAIN of its owner is the governing entry (docs/RULES.md, "What an ask
+   answers"). The fields `rtype`, `mode` and `takes_glue` of the request are ignored. The DS RRset
+   of a zone is in the parent zone (RFC 4035 section 2.4). So for a question of type DS, pass the
+   name without its first label. The errors are those of `rrcache_lookup`, except
+   RRCACHE_BAD_CHOICE. */
 RRCACHE_API enum rrcache_status rrcache_lookup_delegation(struct rrcache *cache,
                                                           const struct rrcache_request *request,
                                                           struct rrcache_answer *answer);
@@ -379,22 +384,22 @@ RRCACHE_API bool rrcache_next(const struct rrcache_answer *answer, struct rrcach
    `answer` may be null. Otherwise, the call fills `answer` with the answer that the response itself
    contains, including data that are not stored: data with TTL 0, data that are too large, and data
    of lower rank than the cached data. So a waiting client gets the data that the server sent. If AA
-   is clear and `lowest_ttl` is not set, an RRset with unequal TTLs is left out of `answer` too. If
-   that RRset contains the data of the query's type, or a CNAME record that leads to these data,
-   `kind` of `answer` is then RRCACHE_MISS. For a query of type ANY, `answer` contains all RRsets
-   that the answer section has for the name, except those that are left out because their TTLs are
-   unequal. A look-up of type ANY, however, never finds these RRsets, because each RRset is stored
-   under its own type. If the response is stored as a failure, `kind` of `answer` is RRCACHE_FAILED.
-   To fill `answer`, the call follows at most RRCACHE_MOST_ALIASES CNAME records, and returns RRsets
-   of any size. But the call stores only relevant data, for which the limits are lower: fewer CNAME
-   records are followed, and only smaller RRsets are relevant. In `answer`, rdata of types A and
-   AAAA may have any length. Each record of a type that is not kept, such as NAPTR, is returned as a
-   separate RRset. If the query is of such a type, RRCACHE_NODATA means that, according to an SOA
-   record, there are no data of the type. If the query is of type NSEC or RRSIG, and the answer
-   section has records of this type for the name of the query, `answer` contains these records. No
-   CNAME record is then followed, even if the kind of the response is RRCACHE_RESPONSE_ALIAS. If
-   only `report` contains the result, as for a negative response without an SOA record, `kind` of
-   `answer` is RRCACHE_MISS.
+   is clear and `lowest_ttl` is not set, an RRset with unequal TTLs is neither stored nor returned
+   in `answer`. If that RRset contains the data of the query's type, or a CNAME record that leads to
+   these data, `kind` of `answer` is then RRCACHE_MISS. For a query of type ANY, `answer` contains
+   all RRsets that the answer section has for the name, except those that are left out because their
+   TTLs are unequal. A look-up of type ANY, however, never finds these RRsets, because each RRset is
+   stored under its own type. If the response is stored as a failure, `kind` of `answer` is
+   RRCACHE_FAILED. To fill `answer`, the call follows at most RRCACHE_MOST_ALIASES CNAME records,
+   and returns RRsets of any size. But the call stores only relevant data, for which the limits are
+   lower: fewer CNAME records are followed, and only smaller RRsets are relevant. In `answer`, rdata
+   of types A and AAAA may have any length. Each record of a type that is not kept, such as NAPTR,
+   is returned as a separate RRset. If the query is of such a type, `kind` is RRCACHE_NODATA if an
+   SOA record of the response denies that data of the type exist. If the query is of type NSEC or
+   RRSIG, and the answer section has records of this type for the name of the query, `answer`
+   contains these records. No CNAME record is then followed, even if the kind of the response is
+   RRCACHE_RESPONSE_ALIAS. If only `report` contains the result, as for a negative response without
+   an SOA record, `kind` of `answer` is RRCACHE_MISS.
 
    If the response contains only the beginning of a CNAME chain, its kind is RRCACHE_RESPONSE_ALIAS,
    and `kind` of `answer` is RRCACHE_MISS. Keep the CNAME RRsets of this answer, and look up `end`
@@ -426,10 +431,10 @@ RRCACHE_API enum rrcache_status rrcache_store(struct rrcache *cache,
 RRCACHE_API enum rrcache_status rrcache_store_set(struct rrcache *cache,
                                                   const struct rrcache_set *set, uint32_t *outcome);
 
-/* Stores a negative answer (a name does not exist, or has no data of a type) under the same rules
-   as `rrcache_offer_negative`, and writes the outcome to `outcome`. Returns RRCACHE_TOO_LARGE if
-   the negative answer might use more memory than one shelf may use for all its keys. The other
-   errors are those of `rrcache_offer_negative`. */
+/* Stores a negative answer, which says that a name does not exist or has no data of a type, under
+   the same rules as `rrcache_offer_negative`, and writes the outcome to `outcome`. Returns
+   RRCACHE_TOO_LARGE if the negative answer might use more memory than one shelf may use for all its
+   keys. The other errors are those of `rrcache_offer_negative`. */
 RRCACHE_API enum rrcache_status rrcache_store_negative(struct rrcache *cache,
                                                        const struct rrcache_negative *negative,
                                                        uint32_t *outcome);
@@ -459,15 +464,15 @@ RRCACHE_API enum rrcache_status rrcache_forget(struct rrcache *cache,
 
 /* Removes fully expired keys until at least `most` keys have been removed or no such key is left. A
    key is fully expired if its entry can answer no question at `moment`, not even as stale data.
-   `most` must be at least 1. The call writes to `swept` how many keys it removed; `is_done` is 1 if
-   no fully expired key is left, and 0 if such a key may be left. A sweep continues where the
-   previous sweep ended. The call releases the locks of a shelf after every 64 keys, and lets
-   threads that wait for these locks go first. There are two exceptions: the call does not release
-   the locks while it removes keys that expire in the same second, or while the first sweep of a
-   shelf visits all its keys. A caller need not sweep, because eviction makes room. A sweep at the
-   timestamp 2^40 removes each key whose entry has a timestamp below 2^40 - 2^32, so a caller with a
-   clock such as CLOCK_BOOTTIME can empty the cache in this way, if `most` is large enough. Later
-   calls may pass smaller timestamps.
+   `most` must be at least 1. The call writes to `swept` how many keys it removed; `is_done` of
+   `swept` is 1 if no fully expired key is left, and 0 if such a key may be left. A sweep continues
+   where the previous sweep ended. The call releases the locks of a shelf after every 64 keys, and
+   lets threads that wait for these locks go first. There are two exceptions: the call does not
+   release the locks while it removes keys that expire in the same second, or while the first sweep
+   of a shelf visits all its keys. A caller need not sweep, because eviction makes room. A sweep at
+   the timestamp 2^40 removes each key whose entry has a timestamp below 2^40 - 2^32, so a caller
+   with a clock such as CLOCK_BOOTTIME can empty the cache in this way, if `most` is large enough.
+   Later calls may pass smaller timestamps.
 
    Returns RRCACHE_BAD_RULES if `most` is 0. May also return RRCACHE_MOMENT_TOO_LARGE,
    RRCACHE_HISTORY_FULL or RRCACHE_MEMORY; `swept` then contains the number of keys that were
@@ -503,33 +508,34 @@ RRCACHE_API enum rrcache_status rrcache_stats_of(struct rrcache *cache, uint64_t
 RRCACHE_API enum rrcache_status rrcache_stats_text(const struct rrcache_stats *stats, char *text,
                                                    size_t size);
 
-/* Starts to record the history of each shelf: a list of events, which are calls with their results.
-   While histories are being recorded, each look-up is an event, changes its shelf, and moves its
-   entry to the front of the LRU order. Events use at least 96 octets each and stay in memory until
-   recording stops. `octets` does not limit this memory. If histories are already being recorded,
-   the call does nothing. May return RRCACHE_HISTORY_FULL or RRCACHE_MEMORY. On error nothing is
-   recorded. */
+/* Starts to record the history of each shelf: a list of events, each of which records one call and
+   its result. While histories are being recorded, each look-up is an event, changes its shelf, and
+   moves its entry to the front of the LRU order. Events use at least 96 octets each and stay in
+   memory until recording stops. `octets` does not limit this memory. If histories are already being
+   recorded, the call does nothing. May return RRCACHE_HISTORY_FULL or RRCACHE_MEMORY. On error
+   nothing is recorded. */
 RRCACHE_API enum rrcache_status rrcache_record_all(struct rrcache *cache);
 
 /* Stops recording, and writes the history of each shelf as text (an archive) to `sink`, one shelf
-   after another. Each shelf continues to record until its turn. So while a slow sink writes the
-   archives of earlier shelves, the events of later shelves still take memory. If nothing is being
-   recorded, the call writes nothing. Returns RRCACHE_SINK if the sink returns nonzero. May also
-   return RRCACHE_HISTORY_FULL or RRCACHE_MEMORY. After any of these errors, recording has stopped,
-   and the histories that were not written are dropped. */
+   after another. Each shelf continues to record until the call writes its history. So while a slow
+   sink processes the archives of earlier shelves, new events of later shelves use more and more
+   memory. If nothing is being recorded, the call writes nothing. Returns RRCACHE_SINK if the sink
+   returns nonzero. May also return RRCACHE_HISTORY_FULL or RRCACHE_MEMORY. After any of these
+   errors, recording has stopped, and the histories that were not written are dropped. */
 RRCACHE_API enum rrcache_status rrcache_stop_recording_all(struct rrcache *cache,
                                                            rrcache_shelf_sink sink, void *state);
 
 /* Writes the contents of each shelf to `sink`, one shelf after another, in the form in which a
    chapter (segment) of an archive begins (docs/FORMATS.md). The text of a shelf shows its contents
-   at one point in time, because other calls on the shelf wait while the call lists its keys. The
-   call allocates memory for the keys of one shelf at a time. No call reads these contents back into
-   a cache. But a caller can store each entry in a new cache, in the order of the event numbers,
-   with the rank, TTL and timestamp from its line. After a restart of the machine, CLOCK_BOOTTIME
-   begins at zero again, so the caller must first convert the timestamps (docs/RULES.md, "Listing
-   and saving keys"). docs/CAPTURES.md, "A wrong answer", says what a dump shows about an answer.
-   Returns RRCACHE_HAS_CHAPTERS while histories are being recorded, and RRCACHE_SINK if the sink
-   returns nonzero. May also return RRCACHE_HISTORY_FULL or RRCACHE_MEMORY. */
+   at one point in time, because other calls on the shelf wait while `rrcache_dump` lists the keys
+   of the shelf. The call allocates memory for the keys of one shelf at a time. No call reads this
+   text back into a cache. But a caller can store each entry in a new cache, in the order of the
+   event numbers, with the rank, TTL and timestamp from its line. After a restart of the machine,
+   CLOCK_BOOTTIME begins at zero again, so the caller must first convert the timestamps
+   (docs/RULES.md, "Listing and saving keys"). docs/CAPTURES.md, "A wrong answer", says what a dump
+   shows about an answer. Returns RRCACHE_HAS_CHAPTERS while histories are being recorded, and
+   RRCACHE_SINK if the sink returns nonzero. May also return RRCACHE_HISTORY_FULL or
+   RRCACHE_MEMORY. */
 RRCACHE_API enum rrcache_status rrcache_dump(struct rrcache *cache, rrcache_shelf_sink sink,
                                              void *state);
 

@@ -18,11 +18,11 @@
    name and a class, and is for the NXDOMAIN of the name. The third consists of a name, a class and
    a type, and is for the resolution failure of the type. An *entry* is the RRset, negative answer
    or failure that a key holds. To *offer* data is to pass them to a shelf, which decides whether to
-   store them (`enum rrcache_outcome`). An *ask* looks up an answer. The entry that gives the answer
-   moves to the front of the LRU order. A *peek* looks up an answer but changes nothing. A *part* is
-   the set of all names that belong to one shelf. A part and its shelf have the same number, counted
-   from 0. A type or a class is *kept* if the library stores its data; the library skips data of all
-   other types and classes.
+   store them (`enum rrcache_outcome`). An *ask* looks up an answer, and moves the entry that gives
+   the answer to the front of the LRU order. A *peek* looks up an answer but changes nothing. A
+   *part* is the set of all names that belong to one shelf. A part and its shelf have the same
+   number, counted from 0. A type or a class is *kept* if the library stores its data; the library
+   skips data of all other types and classes.
 
    docs/RULES.md describes the rules of the cache. Some names in this header differ from the terms
    in that document: a `moment` is a timestamp, `trust` is a rank, `left` is a remaining TTL, and
@@ -70,7 +70,8 @@
 
    Memory
    - The library allocates memory only with malloc and realloc, and frees it only with free. If an
-     allocation fails, the call returns RRCACHE_MEMORY, unless the call can do without the memory.
+     allocation fails during a call, the call returns RRCACHE_MEMORY, unless it can do without the
+     memory.
    - The following calls never allocate and never return RRCACHE_MEMORY, even for long names:
      `rrcache_peek`, `rrcache_peek_alias`, `rrcache_tell_stored`, `rrcache_sizes`,
      `rrcache_next_expiry`, `rrcache_make_name`, `rrcache_tell_response`, `rrcache_tell_offer`,
@@ -97,9 +98,9 @@
    - If `rrcache_take_chapters` fails, the chapters stay in the shelf. If `rrcache_stop_recording`
      fails, the shelf continues to record.
    - If a call fails, its outputs are unmodified, with two exceptions. A call that returns
-     RRCACHE_SMALL still writes to its outputs `told`, `name` and `size`. A call that has `counts`
-     or `swept` as an output writes to this output, unless the error is RRCACHE_NULL,
-     RRCACHE_OVERLAP, RRCACHE_NO_SHELF or RRCACHE_NO_OFFERS.
+     RRCACHE_SMALL still writes to those of the outputs `told`, `name` and `size` that it has. A
+     call that has `counts` or `swept` as an output writes to this output, unless the error is
+     RRCACHE_NULL, RRCACHE_OVERLAP, RRCACHE_NO_SHELF or RRCACHE_NO_OFFERS.
 
    A message about names in several shelves
    - A response may contain data of names that do not belong to the shelf of the question's name,
@@ -129,8 +130,8 @@
      from the address and port to which the query was sent, and that it arrives at the address and
      port from which the query was sent.
    - A resolver that parses responses itself passes the parsed RRsets, with their sections, to
-     `rrcache_compose_response`. This function writes them as a message, which the resolver then
-     reads like any other message.
+     `rrcache_compose_response`. This function writes the RRsets as a message, which the resolver
+     then passes to `rrcache_read_response` like any other message.
    - A function whose name ends in `_unchecked` reads from a message all data that are in bailiwick:
      data of names at or below the zone whose servers were queried. Such a function does not compare
      the message with a query. The caller must check the addresses and ports, the identifier and the
@@ -147,21 +148,22 @@
    - Nothing from a message is offered if its opcode is not QUERY, if the class of its question is
      not kept, or if the name of its question is out of bailiwick.
    - The kept classes are IN, CH and HS (RFC 1035 section 3.2.4). docs/RULES.md lists the kept
-     types. Each class of a name has its own keys. A record of a message is ignored unless its class
-     is the class of the question. Data of type A in class CH are not kept, because the rdata of
-     this type in this class begin with a name. It is an error to ask for a class that is not kept,
-     or for type 0. A question for any other type that is not kept is allowed: the reply is a miss,
-     or RRCACHE_NXDOMAIN if an unexpired NXDOMAIN of the name is cached. For type ANY, such an
-     NXDOMAIN gives the reply even if unexpired RRsets of higher rank are cached for the name.
+     types. Each class of a name has its own keys. A record of a message is ignored unless it has
+     the class of the question. Data of type A in class CH are not kept, because the rdata of this
+     type in this class begin with a name. It is an error to ask for a class that is not kept, or
+     for type 0. A question for any other type that is not kept is allowed: the reply is a miss, or
+     RRCACHE_NXDOMAIN if an unexpired NXDOMAIN of the name is cached. For type ANY, such an NXDOMAIN
+     gives the reply even if unexpired RRsets of higher rank are cached for the name.
    - Even if a message that answers its question has just been offered, the next ask for this
      question may be a miss. Apart from evictions, there are six possible causes: the answer is at
      the end of a CNAME chain, or the chain is too long; the TTL is 0; the type is not kept; the
      records of an RRset have different TTLs, AA is clear and `lowest_ttl` is not set; the response
      is negative but has no suitable SOA record (docs/RULES.md, "What a response offers"); or the
-     RRset is not relevant. Even then, `rrcache_tell_response` returns the kind of the response, and
-     `rrcache_tell_offer` returns each offer, including an RRset with TTL 0. The caller can answer
-     the waiting client from the output of these calls. The caller has to parse the message only if
-     it needs data that are not offered, such as data of a type that is not kept.
+     RRset is not relevant. In all these cases, `rrcache_tell_response` still returns the kind of
+     the response, and `rrcache_tell_offer` returns each offer, including an RRset with TTL 0. The
+     caller can answer the waiting client from the output of these calls. The caller has to parse
+     the message only if it needs data that are not offered, such as data of a type that is not
+     kept.
    - If a message answers its question, but nothing from it is stored for the question, the message
      does not end a failure that is cached for the question. A miss is then still RRCACHE_FAILED
      until the failure expires. To end the failure earlier, call `rrcache_offer_failure` with `ttl`
@@ -170,24 +172,24 @@
      message has TTL 0 and clears the RRset. The unchanged RRset may still be returned, even as a
      stale answer. But under RFC 8767 section 4, an authoritative response (AA set) with RCODE
      NOERROR or NXDOMAIN counts as a refresh, and the old RRset should no longer be returned. So if
-     nothing is stored from such a response, the resolver calls `rrcache_offer_set` with `ttl` 0 and
-     RRCACHE_AUTHORITATIVE_ANSWER to clear the RRset.
+     nothing is stored from such a response, the resolver should call `rrcache_offer_set` with `ttl`
+     0 and RRCACHE_AUTHORITATIVE_ANSWER to clear the RRset.
    - If the RCODE of a response is neither NOERROR nor NXDOMAIN, and the type of its question is
      kept, a failure of the question is offered, even if the RCODE is FORMERR, NOTIMP or REFUSED. If
      no cached data may answer the question, the reply is then RRCACHE_FAILED until the failure
      expires or a later entry for the question is stored. So offer such a response only when the
      resolver can neither query another server nor try again without EDNS.
-   - If a message has more new keys than fit in the shelf, the later keys of the message evict some
-     of its earlier keys.
+   - If the offers of a message have more new keys than the shelf can hold, later offers evict keys
+     of earlier offers.
 
    Timestamps
    - Timestamps (`moment`) are numbers of seconds, at most 2^40. The caller supplies them, because
      the functions of this header read no clock. The timestamp of a call may be lower than that of a
      previous call.
-   - The age of an entry is the timestamp of the call minus the timestamp of the entry. If the
-     timestamp of the call is lower than that of the entry, the age is 0, and `left` is the whole
-     TTL of the entry. The field `age` of `struct rrcache_entry` is not this age, but a number of
-     uses.
+   - In a call, the age of an entry is the timestamp of the call minus the timestamp of the entry.
+     If the timestamp of the call is lower than that of the entry, the age is 0, and `left` is the
+     whole TTL of the entry. The field `age` of `struct rrcache_entry` is not this age, but a number
+     of uses.
    - If the caller's clock is set back by some seconds, all cached data live that many seconds
      longer. Data that had expired, but have not yet been replaced, cleared, evicted or swept, may
      answer again, and may prevent data of lower rank from being stored. If the clock is set
@@ -214,10 +216,10 @@
      shelf records. The rest of this section applies only while a shelf records, except for the
      statements about event numbers and chapter numbers.
    - An event uses 96 octets, plus the octets of its names and data.
-   - A chapter is a segment of the history, and new events are added to the open chapter. If a call
-     has to write an event and the open chapter is full, the call first closes that chapter and
-     opens the next one, under the lock of the shelf. A call that offers a message may close a
-     chapter before each of its offers. No reply depends on where chapters end.
+   - A chapter is a segment of the history. The newest chapter is open, which means that new events
+     are added to it. If a call has to write an event and the open chapter is full, the call first
+     closes that chapter and opens the next one, under the lock of the shelf. A call that offers a
+     message may close a chapter before each of its offers. No reply depends on where chapters end.
    - The time to close a chapter grows with the number of keys that the shelf holds, and with the
      number of keys that it held when the chapter began. The call that closes the chapter writes 16
      octets for each key, and copies an entry of 56 octets for each key that has been used since the
@@ -273,8 +275,9 @@
    Names are in wire form (RFC 1035 section 3.1): complete, without compression pointers, and at
    most 255 octets long, including the zero octet at the end. Letters may be in upper or lower case.
    Except in `struct rrcache_place`, the field `line` of a struct is any number that the caller
-   chooses. While a shelf records, it keeps this number with the event of the call. A pointer to
-   octets or to an array may be null only if the size that is passed with the pointer is 0.
+   chooses. While a shelf records, it keeps this number with each event of the call to which the
+   struct is passed. A pointer to octets or to an array may be null only if the size that is passed
+   with the pointer is 0.
 
    The names of the exported functions that this header declares begin with `rrc_`. These functions
    require pointers that are not null, and buffers that do not overlap. The inline functions below
@@ -336,8 +339,8 @@ enum rrcache_status {
                                      `struct rrcache_name` holds no name */
     RRCACHE_BAD_MESSAGE = 10,     /* the octets cannot be read as a response; `rrcache_fault`
                                      reports the reason */
-    RRCACHE_BAD_CHOICE = 11,      /* no purpose, mode, kind, trust, section or RCODE has this
-                                     number */
+    RRCACHE_BAD_CHOICE = 11,      /* the number of a purpose, mode, kind, trust, section or RCODE is
+                                     not valid */
     RRCACHE_BAD_TYPE = 12,        /* in an offer: data of the type are not kept in the class
                                      (docs/RULES.md lists the kept types). In a question: its class
                                      is not kept, or its type is 0. In a parsed response or its
@@ -353,7 +356,8 @@ enum rrcache_status {
                                      written */
     RRCACHE_NULL = 17,            /* a required pointer is null (never returned by `rrc_`
                                      functions) */
-    RRCACHE_NO_OFFERS = 18,       /* the handle holds no offers, or none with this number */
+    RRCACHE_NO_OFFERS = 18,       /* the handle holds no offers, or no offer with the given
+                                     number */
     RRCACHE_HAS_OFFERS = 19,      /* the handle already holds offers */
     RRCACHE_OTHER_QUERY = 20,     /* the identifier or the question of the message differs from that
                                      of the query, the message is itself a query, or it is too short
@@ -361,7 +365,8 @@ enum rrcache_status {
     RRCACHE_NO_CHAPTERS = 21,     /* the handle holds no chapters */
     RRCACHE_HAS_CHAPTERS = 22,    /* the handle already holds chapters or, in `rrcache_dump`,
                                      histories are being recorded */
-    RRCACHE_NO_LINE = 23,         /* there is no such chapter, or the chapter has no such line */
+    RRCACHE_NO_LINE = 23,         /* the handle has no chapter, or the chapter has no line, with the
+                                     given number */
     RRCACHE_SINK = 24,            /* the sink returned nonzero (never returned by `rrc_`
                                      functions) */
     RRCACHE_OVERLAP = 25,         /* an output overlaps another argument (never returned by `rrc_`
@@ -504,9 +509,9 @@ struct rrcache_chapters {
 
 /* A name in the form that look-ups in shelves take: folded to lower case, and hashed. Initialize
    the struct to zeros; `rrcache_make_name` fills it. `part` is the number of the name's shelf,
-   counted from 0. `hash` is the 64-bit SipHash-1-3 of the folded name under the seed, and the
-   caller may use this hash in its own tables. The caller may copy the struct. The struct and its
-   copies are valid as long as the caller uses the same seed and the same number of parts. */
+   counted from 0. `hash` is the 64-bit SipHash-1-3 of the folded name under `seed`, and the caller
+   may use this hash in its own tables. The caller may copy the struct. The struct and its copies
+   are valid as long as the caller uses the same seed and the same number of parts. */
 struct rrcache_name {
     uint64_t hash;
     uint64_t part;
@@ -519,7 +524,8 @@ struct rrcache_name {
 /* How names are divided among shelves: `count` is the number of shelves, 1 to 64, and `seed` is the
    seed in the rules of these shelves. The library hashes names with SipHash-1-3 under this seed,
    and the upper 32 bits of the hash determine the shelf. Under another seed, a name may belong to
-   another shelf, so a look-up would not find the data of the name. */
+   another shelf. So calls return RRCACHE_OTHER_SEED for a name that was made, or a message that was
+   read, under a seed that is not the seed of the shelf. */
 struct rrcache_parts {
     uint64_t count;
     uint8_t seed[16];
@@ -611,8 +617,8 @@ struct rrcache_stored {
 struct rrcache_counts {
     uint64_t kept;
     uint64_t cleared;
-    uint64_t outranked; /* not stored, because the key holds unexpired data of higher rank. An
-                           outranked offer is an event, and the call does not fail */
+    uint64_t outranked; /* offers whose data were not stored, because the key holds unexpired data
+                           of higher rank. Such an offer is an event, and not an error */
 };
 
 /* The limits, in seconds, on how long data of a response may be cached. */
@@ -630,8 +636,9 @@ struct rrcache_limits {
         604800, 10800, 30                                                                          \
     }
 
-/* The timestamp at which to sweep. `rrcache_sweep` ignores `most`. `rrcache_sweep_some` stops, at
-   the latest, when it has removed at least `most` keys or has made `most` sweeps. */
+/* The timestamp at which to sweep. `rrcache_sweep` ignores `most`. `rrcache_sweep_some` makes at
+   most `most` sweeps. It stops earlier if it has removed at least `most` keys, or if no fully
+   expired key is left. */
 struct rrcache_sweep_at {
     uint64_t moment;
     uint64_t line;
@@ -649,7 +656,7 @@ struct rrcache_swept {
 struct rrcache_trim_to {
     uint64_t moment;
     uint64_t line;
-    uint64_t limit; /* the maximum number of octets that remain, at least 1 */
+    uint64_t limit; /* the maximum number of octets that the remaining keys may use, at least 1 */
     uint64_t most;  /* at least 1 */
 };
 
@@ -695,7 +702,8 @@ struct rrcache_line {
 };
 
 /* ---- Arguments of functions. The field after each pointer to octets is the number of these
-   octets. Use designated initializers for the structs below, so that fields left out are 0.
+   octets. Use designated initializers for the structs below, so that the fields that you leave out
+   are 0.
 
    The structs of this header and of rrcache.h that exported functions read or write are part of the
    ABI of the library. These structs keep their size and their fields in all versions with the same
@@ -816,11 +824,11 @@ typedef int (*rrcache_sink)(void *state, const void *octets, size_t size);
 /* The numbers of octets that `rrcache_sizes` adds up. RRCACHE_ENTRY_OCTETS is for a key, including
    its positions in the LRU order, the map of keys and the expiry queue. RRCACHE_VALUE_OCTETS is for
    a name, the rdata of a record, or a list of several records. RRCACHE_VALUE_OCTETS includes room
-   for RRCACHE_INLINE_OCTETS octets of the name or rdata. If the name or rdata are longer, they need
-   a separate block of memory, for which RRCACHE_BLOCK_OCTETS and their size are added. A list of
-   several records needs such a block too, for which only RRCACHE_BLOCK_OCTETS is added.
-   RRCACHE_SHARED_OCTETS is for the reference count of a name or of the data of a key, and for the
-   block of memory that contains this count. */
+   for RRCACHE_INLINE_OCTETS octets of the name or rdata. Longer names and rdata are stored in a
+   separate block of memory: RRCACHE_BLOCK_OCTETS and the size of the name or rdata are then added.
+   A list of several records is also stored in a separate block, but only RRCACHE_BLOCK_OCTETS is
+   added. RRCACHE_SHARED_OCTETS is for the reference count of a name or of the data of a key, and
+   for the block of memory that contains this count. */
 enum {
     RRCACHE_ENTRY_OCTETS = 160,
     RRCACHE_VALUE_OCTETS = 48,
@@ -1312,7 +1320,7 @@ static inline void rrcache_put_section(struct rrcache_draft *draft,
     }
 }
 
-/* Writes the beginning of a message, as far as there is room, and returns the size of the whole
+/* Writes as many pieces of a message as there is room for, and returns the size of the whole
    message, or RRCACHE_MESSAGE_OCTETS + 1 if the message would have more than RRCACHE_MESSAGE_OCTETS
    octets. */
 static inline size_t rrcache_put_response(const struct rrcache_query *query,
@@ -1358,18 +1366,18 @@ static inline size_t rrcache_put_response(const struct rrcache_query *query,
    owner, type and class in a section become one RRset. An OPT record may be left out, because it
    causes no offer. If data do not match the layout of their type, the call that reads the message
    returns RRCACHE_BAD_MESSAGE. Names in the data must not have compression pointers, because a
-   pointer would lead to a wrong offset in the new message. The call does not check for such
-   pointers.
+   pointer would lead to a wrong offset in the new message. `rrcache_compose_response` does not
+   check for such pointers.
 
-   Returns RRCACHE_BAD_CHOICE if the section of a set does not exist or the RCODE is above 15;
-   RRCACHE_BAD_TYPE if a type or a class is 0, in a set or in the query (RFC 6895 reserves type 0
-   and class 0); RRCACHE_BAD_NAME if an owner or the name of the query is not in wire form;
-   RRCACHE_BAD_DATA if the last rdata of a set are cut off; and RRCACHE_WRONG_BODY if a set has no
-   data. Returns RRCACHE_SMALL if the buffer is too small: the buffer is then unmodified, and `size`
-   is the size of the message. If the message would have more than RRCACHE_MESSAGE_OCTETS octets, no
-   buffer is large enough, and `size` is RRCACHE_MESSAGE_OCTETS + 1. The new message may be too
-   large even if the response was not, because only owners are compressed in the new message. In
-   this case, leave out the additional section. */
+   Returns RRCACHE_BAD_CHOICE if `section` of a set is not a value of `enum rrcache_section` or the
+   RCODE is above 15; RRCACHE_BAD_TYPE if a type or a class is 0, in a set or in the query (RFC 6895
+   reserves type 0 and class 0); RRCACHE_BAD_NAME if an owner or the name of the query is not in
+   wire form; RRCACHE_BAD_DATA if the last rdata of a set are cut off; and RRCACHE_WRONG_BODY if a
+   set has no data. Returns RRCACHE_SMALL if the buffer is too small: the buffer is then unmodified,
+   and `size` is the size of the message. If the message would have more than RRCACHE_MESSAGE_OCTETS
+   octets, no buffer is large enough, and `size` is RRCACHE_MESSAGE_OCTETS + 1. The new message may
+   be too large even if the response was not, because only owners are compressed in the new message.
+   In this case, leave out the additional section. */
 static inline enum rrcache_status
 rrcache_compose_response(const struct rrcache_query *query,
                          const struct rrcache_parsed_response *parsed, uint8_t *buffer, size_t room,
@@ -1443,11 +1451,12 @@ static inline enum rrcache_status rrcache_can_read(const struct rrcache_response
    section 7).
 
    The following data are relevant:
-   - In the answer section, an RRset is relevant if its owner is the name of the question, or one of
-     at most 11 names to which CNAME records lead from that name. The RRset must also have the type
-     of the question or type CNAME; for a question of type ANY, it may have any type. A DNAME RRset
-     is also relevant if its owner is above the name of the question or above one of the at most 11
-     other names. For a question of type CNAME or ANY, no CNAME record is followed.
+   - In the answer section, an RRset is relevant if two conditions hold. First, its owner is the
+     name of the question, or one of at most 11 names to which CNAME records lead from that name.
+     Second, its type is the type of the question or CNAME; for a question of type ANY, any type is
+     allowed. A DNAME RRset is also relevant if its owner is above the name of the question or above
+     one of the at most 11 other names. For a question of type CNAME or ANY, no CNAME record is
+     followed.
    - In the authority section, for each of the types NS, SOA and DS, the first RRset whose owner is
      at or above the final name is relevant. The final name is the name at the end of the CNAME
      chain that begins at the name of the question. A chain of more than 16 CNAME records has no
@@ -1464,23 +1473,24 @@ static inline enum rrcache_status rrcache_can_read(const struct rrcache_response
    - A DS RRset whose owner is `zone` itself, because the DS RRset of a zone is in the parent zone
      (RFC 4035 section 2.4).
    - An NS RRset of the authority section, unless the question asks for this RRset or the response
-     is a referral (RFC 1034 section 4.3.2). In a referral, AA is clear and the owner of the NS
-     RRset is below `zone`. This restriction prevents the servers of a zone from renewing the
-     delegation of the zone with NS records that they add to the authority section of other
-     responses. But a repeated referral renews its NS RRset. To make a delegation end when the TTL
-     from its first referral runs out, the caller peeks for the NS RRset of each referral before it
-     makes the offers of that referral. If an unexpired NS RRset with the same data is cached, the
-     caller does not make the offers for the part to which the owner of this RRset belongs.
+     is a referral (RFC 1034 section 4.3.2). This restriction prevents the servers of a zone from
+     renewing the delegation of the zone with NS records that they add to the authority section of
+     other responses. In a referral, AA is clear and the owner of the NS RRset is below `zone`. A
+     repeated referral renews its NS RRset. To make a delegation end when the TTL from its first
+     referral runs out, the caller peeks for the NS RRset of each referral before it makes the
+     offers of that referral. If an unexpired NS RRset with the same data is cached, the caller does
+     not make the offers for the part to which the owner of this RRset belongs.
    - An RRset with more than 16,384 octets of rdata.
    - In class IN, an RRset of type A with rdata that are not 4 octets long, or an RRset of type AAAA
      with rdata that are not 16 octets long.
 
-   So a server that is queried for one name can replace the cached data of another name only in
-   three cases. First, CNAME records in the server's response lead from the name of the question to
-   the other name. Second, the other name is a host in NS, MX or SRV records of the response. Third,
-   the response has NS, SOA, DS or DNAME records of the other name, and the other name is above the
-   name of the question or above a name to which CNAME records lead from that name. For NS and DS
-   records, the restrictions in the list above also apply. */
+   Under these rules, a server that is queried for one name can replace the cached data of another
+   name only in three cases. First, CNAME records in the server's response lead from the name of the
+   question to the other name. Second, the other name is a host in NS, MX or SRV records of the
+   response. Third, the response has NS, SOA, DS or DNAME records of the other name, and the other
+   name is above the name of the question or above a name to which CNAME records lead from that
+   name. Even in these cases, an NS or DS RRset that the list above excludes does not replace cached
+   data. */
 static inline enum rrcache_status rrcache_read_response(struct rrcache_offers *offers,
                                                         const struct rrcache_response *response,
                                                         const struct rrcache_query *query,
@@ -1539,14 +1549,14 @@ rrcache_read_message_unchecked(struct rrcache_offers *offers,
 }
 
 /* Offers to the shelf of one part all data that a handle holds for this part, with the timestamp of
-   the response. The part is `share->part`, which is counted from 0, and must be below the number of
-   parts for which the message was read. The handle keeps the offers, so the caller may make the
-   offers for a part again. The shelf keeps its stored data even after the offers of the handle are
-   freed. The call copies no names and no data. In `counts`, it reports how many of the offers had
-   each outcome. If an offer fails, `counts` covers only the offers before it. Returns
-   RRCACHE_BAD_RULES if there is no part with the number `share->part`. Returns RRCACHE_OTHER_SEED
-   if the message was read with a seed that is not the seed of the shelf, because asks would not
-   find the data in this shelf. Needs the write lock of the shelf. */
+   the response. The number of the part is `share->part`. It is counted from 0, and must be below
+   the number of parts for which the message was read. The handle keeps the offers, so the caller
+   may make the offers for a part again. The shelf keeps its stored data even after the offers of
+   the handle are freed. The call copies no names and no data. In `counts`, it reports how many of
+   the offers had each outcome. If an offer fails, `counts` covers only the offers before it.
+   Returns RRCACHE_BAD_RULES if there is no part with the number `share->part`. Returns
+   RRCACHE_OTHER_SEED if the message was read with a seed that is not the seed of the shelf, because
+   asks would not find the data in this shelf. Needs the write lock of the shelf. */
 static inline enum rrcache_status rrcache_offer_read(struct rrcache_shelf *shelf,
                                                      struct rrcache_offers *offers,
                                                      const struct rrcache_share *share,
@@ -1635,13 +1645,13 @@ static inline uint64_t rrcache_data_room(const uint8_t *data, uint64_t size)
     return octets + (count > 1 ? RRCACHE_VALUE_OCTETS + RRCACHE_BLOCK_OCTETS : 0);
 }
 
-/* Computes how many octets an offer would use if it were stored under a new key. The octets are
-   counted as `rrcache_sizes` counts them. `name`, `told` and `buffer` are the output of
-   `rrcache_tell_offer`. If an offer would use more octets than the limit to which the caller trims
-   the shelf, the trim after this offer would evict all keys. The caller can instead make only the
-   other offers of the message, with `rrcache_offer_one`, and answer the waiting client from the
-   output of `rrcache_tell_offer`. Returns RRCACHE_SMALL if `buffer_size` is less than the sum of
-   the sizes in `told`. Needs no lock. */
+/* Writes to `octets` how many octets of memory an offer would use if it were stored under a new
+   key. These octets are counted as `rrcache_sizes` counts them. `name`, `told` and `buffer` are the
+   output of `rrcache_tell_offer`. If an offer would use more octets than the limit to which the
+   caller trims the shelf, the trim after this offer would evict all keys. The caller can instead
+   make only the other offers of the message, with `rrcache_offer_one`, and answer the waiting
+   client from the output of `rrcache_tell_offer`. Returns RRCACHE_SMALL if `buffer_size` is less
+   than the sum of the sizes in `told`. Needs no lock. */
 static inline enum rrcache_status rrcache_tell_octets(const struct rrcache_name *name,
                                                       const struct rrcache_told *told,
                                                       const uint8_t *buffer, size_t buffer_size,
@@ -1830,10 +1840,10 @@ static inline enum rrcache_status rrcache_offer_negative(struct rrcache_shelf *s
    so `outcome` is RRCACHE_KEPT. A failure with `ttl` 0 replaces the failure that the shelf holds
    for the name, class and type, and so ends that failure. No ask or peek returns a failure with
    `ttl` 0. Such a failure occupies a key even if there is no failure to end, and may then evict
-   another key. So offer a failure with `ttl` 0 only if a call has shown that the shelf holds a
-   failure of this name, class and type, with a reply or an entry of kind RRCACHE_FAILED. Returns
-   RRCACHE_BAD_TYPE if data of the type are not kept in the class, RRCACHE_BAD_NAME if the name is
-   not in wire form, and RRCACHE_WRONG_BODY if `ttl` is above 2^31 - 1. Needs the write lock. */
+   another key. So offer a failure with `ttl` 0 only if a reply or an entry of kind RRCACHE_FAILED
+   has shown that the shelf holds a failure of this name, class and type. Returns RRCACHE_BAD_TYPE
+   if data of the type are not kept in the class, RRCACHE_BAD_NAME if the name is not in wire form,
+   and RRCACHE_WRONG_BODY if `ttl` is above 2^31 - 1. Needs the write lock. */
 static inline enum rrcache_status rrcache_offer_failure(struct rrcache_shelf *shelf,
                                                         const struct rrcache_failure *failure,
                                                         uint32_t *outcome)
@@ -1941,23 +1951,23 @@ static inline enum rrcache_status rrcache_peek(const struct rrcache_shelf *shelf
    - The record was stored earlier than the entry that gives the reply for the type, but is
      unexpired and of higher rank.
 
-   So the call chooses between the CNAME record and the data of the type in the same way as an ask
-   chooses between an RRset and an NXDOMAIN. As a result, if a newer CNAME record may be returned,
-   the call returns that record rather than an expired address (RFC 8767 section 7). If one of the
-   two conditions above does not hold, the call returns the reply for the type of the question. For
-   a question of type CNAME or ANY, the call always returns the reply for the type (RFC 1034 section
-   4.3.2). The same applies to a question of type NSEC or RRSIG, because a name with a CNAME record
-   may have NSEC and RRSIG records of its own (RFC 4035 section 2.5).
+   By these rules, the call chooses between the CNAME record and the data of the type in the same
+   way as an ask chooses between an RRset and an NXDOMAIN. As a result, if a newer CNAME record may
+   be returned, the call returns that record rather than an expired address (RFC 8767 section 7). If
+   one of the two conditions above does not hold, the call returns the reply for the type of the
+   question. For a question of type CNAME or ANY, the call always returns the reply for the type
+   (RFC 1034 section 4.3.2). The same applies to a question of type NSEC or RRSIG, because a name
+   with a CNAME record may have NSEC and RRSIG records of its own (RFC 4035 section 2.5).
 
    If the reply is the CNAME record, the resolver then asks for the target of the record, under the
    lock of the target's shelf. The target is the name in the first rdata. The resolver ignores any
    further rdata, because a name may have only one CNAME record (RFC 2181 section 10.1).
 
    A failure belongs to the name and type of the question. So with RRCACHE_STALE_IF_FAILED, an
-   expired CNAME record may be returned stale only if the shelf holds a recent failure of the type
-   of the question; a failure of type CNAME does not count. A failure of the question is not a
-   failure of the names to which the CNAME record leads. So if the reply to a peek for the question
-   with RRCACHE_NO_STALE has the kind RRCACHE_FAILED, ask for each name of the chain with
+   expired CNAME record may be returned as a stale answer only if the shelf holds a recent failure
+   of the type of the question; a failure of type CNAME does not count. A failure of the question is
+   not a failure of the names to which the CNAME record leads. So if the reply to a peek for the
+   question with RRCACHE_NO_STALE has the kind RRCACHE_FAILED, ask for each name of the chain with
    RRCACHE_STALE_NOW. If the shelf holds unexpired data of the type that are older than the failure,
    the peek returns these data instead. In this case, call `rrcache_tell_stored`: it returns the
    failure too, and the `number` fields of the entries show whether the failure was stored after the
@@ -2044,9 +2054,9 @@ rrcache_sweep(struct rrcache_shelf *shelf, const struct rrcache_sweep_at *sweep,
    the shelf holds a key but has not been swept yet, `moment` is the earliest timestamp at which any
    entry stored so far is fully expired. Entries that the shelf no longer holds count too. After a
    sweep, until an offer is made or a chapter is closed, `moment` is later than the timestamp of the
-   sweep. So a loop that calls this function and then sweeps at `moment`, until `moment` is later
-   than the current time, always ends. `moment` is UINT64_MAX if and only if the shelf holds no key.
-   The call writes no event, and needs only the read lock. */
+   sweep. So the following loop always ends: call this function; if `moment` is not later than the
+   current time, sweep at `moment` and begin again. `moment` is UINT64_MAX if and only if the shelf
+   holds no key. The call writes no event, and needs only the read lock. */
 static inline enum rrcache_status rrcache_next_expiry(const struct rrcache_shelf *shelf,
                                                       uint64_t *moment)
 {
@@ -2087,7 +2097,7 @@ static inline enum rrcache_status rrcache_sweep_some(struct rrcache_shelf *shelf
    key is left. The call writes to `trimmed` the number of keys that it removed, and the number of
    octets that the remaining keys use. If this number of octets is still above the limit, call the
    function again. If a caller trims the shelf after each message, each trim evicts about as many
-   octets as the message added, so no call takes long. The entries of the remaining keys do not
+   octets as the message added, so no trim takes long. The entries of the remaining keys do not
    change. Needs the write lock.
 
    In a trim, the eviction of data is one event: an offer of these data with TTL 0, which clears the
@@ -2098,8 +2108,9 @@ static inline enum rrcache_status rrcache_sweep_some(struct rrcache_shelf *shelf
 
    A trim does not limit all of the memory that a shelf uses. The first sweep of a shelf visits all
    its keys, and from then on the shelf keeps the times at which its keys expire.
-   RRCACHE_ENTRY_OCTETS includes room for one expiry time per key, but the shelf may keep more of
-   these times for a while. SECURITY.md reports how much memory trimmed shelves used in tests.
+   RRCACHE_ENTRY_OCTETS includes room for one expiry time per key, but for a while the shelf may
+   keep more expiry times than keys. SECURITY.md reports how much memory trimmed shelves used in
+   tests.
 
    Returns RRCACHE_BAD_RULES if `limit` or `most` is 0, and RRCACHE_MOMENT_TOO_LARGE if the
    timestamp is above 2^40. In both cases, the call does nothing. The call may return RRCACHE_MEMORY
