@@ -104,7 +104,7 @@
    - The header rrcache_shelf.h describes the wire form of names, the ownership of memory, and each
      status. On error, outputs other than answers are unmodified, unless the comment of the function
      says otherwise.
-   - A function that fills an answer empties the answer first. On error the answer is empty: its
+   - A function that fills an answer empties the answer first. On error, the answer is empty: its
      `kind` is RRCACHE_MISS, and `end` holds no name. The exception is RRCACHE_SMALL: the answer
      then contains the RRsets that fit, and `kind` and `end` are unspecified. The answer does not
      say how large a buffer is needed: make the call again with a larger buffer. If the call was
@@ -226,11 +226,11 @@ struct rrcache_answer {
    answer, the last RRset is the SOA record, which belongs in the authority section. Initialize this
    struct to zeros. */
 struct rrcache_rrset {
-    struct rrcache_parsed_set set; /* its `ttl` is the TTL for the client: the remaining TTL, or 30
-                                      if the RRset is stale. Each RRset of a CNAME chain has its own
-                                      TTL */
+    struct rrcache_parsed_set set; /* the RRset. `ttl` is the TTL for the client: the remaining TTL,
+                                      or 30 if the RRset is stale. Each RRset of a CNAME chain has
+                                      its own TTL */
     uint32_t kind;                 /* enum rrcache_kind: fresh, stale, NODATA or NXDOMAIN */
-    uint32_t trust;                /* its rank: enum rrcache_trust */
+    uint32_t trust;                /* the rank of the RRset: enum rrcache_trust */
     struct rrcache_entry entry; /* the entry that the RRset comes from. Its `ttl` and `moment` are
                                    the TTL and the timestamp with which it was stored. A resolver
                                    can use them to decide when to prefetch. Two entries of one shelf
@@ -262,7 +262,7 @@ struct rrcache_stats {
     uint64_t stale;     /* look-ups answered by a stale RRset */
     uint64_t negative;  /* look-ups answered by NODATA or NXDOMAIN */
     uint64_t misses;    /* look-ups without an answer and without a recent failure */
-    uint64_t failed;    /* look-ups without an answer, after a recent failure */
+    uint64_t failed;    /* look-ups without an answer, but with a recent failure */
     uint64_t kept;      /* RRsets, negative answers and failures that were stored */
     uint64_t outranked; /* RRsets and negative answers that were not stored because data of higher
                            rank were cached */
@@ -512,7 +512,7 @@ RRCACHE_API enum rrcache_status rrcache_stats_text(const struct rrcache_stats *s
    its result. While histories are being recorded, each look-up is an event, changes its shelf, and
    moves its entry to the front of the LRU order. Events use at least 96 octets each and stay in
    memory until recording stops. `octets` does not limit this memory. If histories are already being
-   recorded, the call does nothing. May return RRCACHE_HISTORY_FULL or RRCACHE_MEMORY. On error
+   recorded, the call does nothing. May return RRCACHE_HISTORY_FULL or RRCACHE_MEMORY. On error,
    nothing is recorded. */
 RRCACHE_API enum rrcache_status rrcache_record_all(struct rrcache *cache);
 
@@ -530,8 +530,8 @@ RRCACHE_API enum rrcache_status rrcache_stop_recording_all(struct rrcache *cache
    at one point in time, because other calls on the shelf wait while `rrcache_dump` lists the keys
    of the shelf. The call allocates memory for the keys of one shelf at a time. No call reads this
    text back into a cache. But a caller can store each entry in a new cache, in the order of the
-   event numbers, with the rank, TTL and timestamp from its line. After a restart of the machine,
-   CLOCK_BOOTTIME begins at zero again, so the caller must first convert the timestamps
+   event numbers, with the rank, TTL and timestamp from the entry's line. After a restart of the
+   machine, CLOCK_BOOTTIME begins at zero again, so the caller must first convert the timestamps
    (docs/RULES.md, "Listing and saving keys"). docs/CAPTURES.md, "A wrong answer", says what a dump
    shows about an answer. Returns RRCACHE_HAS_CHAPTERS while histories are being recorded, and
    RRCACHE_SINK if the sink returns nonzero. May also return RRCACHE_HISTORY_FULL or

@@ -43,8 +43,8 @@
      is initialized, only the library may write to it, but the caller may copy it.
 
    Locking
-   - Hold the lock of a shelf during every call that takes the handle of this shelf. Five calls are
-     read-only, and need only a read lock: `rrcache_peek`, `rrcache_peek_alias`,
+   - Hold the lock of a shelf during every call that takes the handle of this shelf. Five of these
+     calls are read-only, and need only a read lock: `rrcache_peek`, `rrcache_peek_alias`,
      `rrcache_tell_stored`, `rrcache_sizes` and `rrcache_next_expiry`. Read-only calls take a const
      handle, and write nothing that another thread reads. Any number of threads may make read-only
      calls on one shelf at the same time. Every other call on a shelf, including `rrcache_ask` and
@@ -58,8 +58,9 @@
      they write to the handle for the offers as well as to the handle of the shelf.
    - `rrcache_take_chapters` and `rrcache_stop_recording` need the write lock of the shelf. The
      following calls on taken chapters need neither the shelf nor a lock: `rrcache_chapter_line`,
-     `rrcache_write_line`, `rrcache_write_chapter` and `rrcache_free_chapters`. While they run,
-     other threads may use or free the shelf. Only one call at a time may use a handle for chapters.
+     `rrcache_write_line`, `rrcache_write_chapter` and `rrcache_free_chapters`. While these calls
+     run, other threads may use or free the shelf. Only one call at a time may use a handle for
+     chapters.
    - `rrcache_fault`, `rrcache_make_name`, `rrcache_compose_response` and `rrcache_tell_octets` take
      no handle and need no lock.
    - No call waits, sleeps or takes a lock, unless malloc, realloc, free or the caller's sink does
@@ -1103,11 +1104,11 @@ static inline enum rrcache_status rrcache_free(struct rrcache_shelf *shelf)
 }
 
 /* Folds and hashes a name in wire form, and determines the number of its part, counted from 0. The
-   call writes the result to `name`, or leaves `name` unmodified if the call fails. The caller
-   passes the result to the calls that look up a name in a shelf. `rrcache_make_name` never
-   allocates, and needs no lock. Returns RRCACHE_BAD_RULES if `parts->count` is not in the range 1
-   to 64, RRCACHE_BAD_SEED if the seed is all zeros, and RRCACHE_BAD_NAME if `octets` are not the
-   wire form of a name. */
+   call writes the result to `name`; if the call fails, `name` is unmodified. The caller passes the
+   result to the calls that look up a name in a shelf. `rrcache_make_name` never allocates, and
+   needs no lock. Returns RRCACHE_BAD_RULES if `parts->count` is not in the range 1 to 64,
+   RRCACHE_BAD_SEED if the seed is all zeros, and RRCACHE_BAD_NAME if `octets` are not the wire form
+   of a name. */
 static inline enum rrcache_status rrcache_make_name(struct rrcache_name *name,
                                                     const uint8_t *octets, size_t size,
                                                     const struct rrcache_parts *parts)
@@ -1240,8 +1241,8 @@ static inline enum rrcache_status rrcache_can_say(const struct rrcache_query *qu
 /* The number of octets in the header of a message. The name of the question follows the header. */
 enum { RRCACHE_HEADER_OCTETS = 12 };
 
-/* A message that is being written to the front of a buffer. A piece that does not fit is counted
-   but not written. If the message gets longer than RRCACHE_MESSAGE_OCTETS, `size` stays at
+/* A message that is being written to the front of a buffer. A piece that does not fit is counted in
+   `size` but not written. If the message gets longer than RRCACHE_MESSAGE_OCTETS, `size` stays at
    RRCACHE_MESSAGE_OCTETS + 1. */
 struct rrcache_draft {
     uint8_t *octets;
@@ -1548,13 +1549,13 @@ rrcache_read_message_unchecked(struct rrcache_offers *offers,
         concerned);
 }
 
-/* Offers to the shelf of one part all data that a handle holds for this part, with the timestamp of
-   the response. The number of the part is `share->part`. It is counted from 0, and must be below
-   the number of parts for which the message was read. The handle keeps the offers, so the caller
-   may make the offers for a part again. The shelf keeps its stored data even after the offers of
-   the handle are freed. The call copies no names and no data. In `counts`, it reports how many of
-   the offers had each outcome. If an offer fails, `counts` covers only the offers before it.
-   Returns RRCACHE_BAD_RULES if there is no part with the number `share->part`. Returns
+/* Makes offers to the shelf of one part: all offers that a handle holds for this part, with the
+   timestamp of the response. The number of the part is `share->part`. It is counted from 0, and
+   must be below the number of parts for which the message was read. The handle keeps the offers, so
+   the caller may make the offers for a part again. The shelf keeps its stored data even after the
+   offers of the handle are freed. The call copies no names and no data. In `counts`, it reports how
+   many of the offers had each outcome. If an offer fails, `counts` covers only the offers before
+   it. Returns RRCACHE_BAD_RULES if there is no part with the number `share->part`. Returns
    RRCACHE_OTHER_SEED if the message was read with a seed that is not the seed of the shelf, because
    asks would not find the data in this shelf. Needs the write lock of the shelf. */
 static inline enum rrcache_status rrcache_offer_read(struct rrcache_shelf *shelf,
@@ -1648,8 +1649,8 @@ static inline uint64_t rrcache_data_room(const uint8_t *data, uint64_t size)
 /* Writes to `octets` how many octets of memory an offer would use if it were stored under a new
    key. These octets are counted as `rrcache_sizes` counts them. `name`, `told` and `buffer` are the
    output of `rrcache_tell_offer`. If an offer would use more octets than the limit to which the
-   caller trims the shelf, the trim after this offer would evict all keys. The caller can instead
-   make only the other offers of the message, with `rrcache_offer_one`, and answer the waiting
+   caller trims the shelf, the trim after this offer would evict all keys. To avoid this, the caller
+   can make only the other offers of the message, with `rrcache_offer_one`, and answer the waiting
    client from the output of `rrcache_tell_offer`. Returns RRCACHE_SMALL if `buffer_size` is less
    than the sum of the sizes in `told`. Needs no lock. */
 static inline enum rrcache_status rrcache_tell_octets(const struct rrcache_name *name,
@@ -1707,15 +1708,15 @@ static inline enum rrcache_status rrcache_free_offers(struct rrcache_offers *off
 }
 
 /* Offers to a shelf all data of a response that are in bailiwick: the RRsets of the response, and
-   its negative answer or failure. The call offers to this shelf even the data of names that belong
-   to other shelves. If there are other shelves, call `rrcache_read_message_unchecked` instead, and
-   then `rrcache_offer_read` for each shelf that the message concerns.
-   `rrcache_offer_message_unchecked` does not compare the response with a query, and ignores
-   `lowest_ttl` and `clears_denied`. Nothing is offered from a response with TC set ("What is
-   stored" above). In `counts`, the call reports how many of the offers had each outcome. If an
-   offer fails, `counts` covers only the offers before it. Returns RRCACHE_BAD_LIMITS if a limit is
-   out of range, RRCACHE_BAD_NAME if the zone is not in wire form, and RRCACHE_BAD_MESSAGE if the
-   octets cannot be read as a response. Needs the write lock. */
+   its negative answer or failure. Data of names that belong to other shelves are offered to this
+   shelf too. If there are other shelves, call `rrcache_read_message_unchecked` instead, and then
+   `rrcache_offer_read` for each shelf that the message concerns. `rrcache_offer_message_unchecked`
+   does not compare the response with a query, and ignores `lowest_ttl` and `clears_denied`. Nothing
+   is offered from a response with TC set ("What is stored" above). In `counts`, the call reports
+   how many of the offers had each outcome. If an offer fails, `counts` covers only the offers
+   before it. Returns RRCACHE_BAD_LIMITS if a limit is out of range, RRCACHE_BAD_NAME if the zone is
+   not in wire form, and RRCACHE_BAD_MESSAGE if the octets cannot be read as a response. Needs the
+   write lock. */
 static inline enum rrcache_status
 rrcache_offer_message_unchecked(struct rrcache_shelf *shelf,
                                 const struct rrcache_response *response, uint64_t line,
@@ -1952,12 +1953,13 @@ static inline enum rrcache_status rrcache_peek(const struct rrcache_shelf *shelf
      unexpired and of higher rank.
 
    By these rules, the call chooses between the CNAME record and the data of the type in the same
-   way as an ask chooses between an RRset and an NXDOMAIN. As a result, if a newer CNAME record may
-   be returned, the call returns that record rather than an expired address (RFC 8767 section 7). If
-   one of the two conditions above does not hold, the call returns the reply for the type of the
-   question. For a question of type CNAME or ANY, the call always returns the reply for the type
-   (RFC 1034 section 4.3.2). The same applies to a question of type NSEC or RRSIG, because a name
-   with a CNAME record may have NSEC and RRSIG records of its own (RFC 4035 section 2.5).
+   way as an ask chooses between an RRset and an NXDOMAIN. As a result, if an address has expired,
+   and a CNAME record that is newer than the address may be returned, the call returns the CNAME
+   record (RFC 8767 section 7). If either of the two conditions above does not hold, the call
+   returns the reply for the type of the question. For a question of type CNAME or ANY, the call
+   always returns the reply for the type (RFC 1034 section 4.3.2). The same applies to a question of
+   type NSEC or RRSIG, because a name with a CNAME record may have NSEC and RRSIG records of its own
+   (RFC 4035 section 2.5).
 
    If the reply is the CNAME record, the resolver then asks for the target of the record, under the
    lock of the target's shelf. The target is the name in the first rdata. The resolver ignores any
@@ -2103,8 +2105,8 @@ static inline enum rrcache_status rrcache_sweep_some(struct rrcache_shelf *shelf
    In a trim, the eviction of data is one event: an offer of these data with TTL 0, which clears the
    key. The eviction of a failure is two events: an offer of a failure with TTL 0, and a sweep at
    timestamp 0, which removes only entries with TTL 0. If the shelf already holds a failure with TTL
-   0, or has held one since its last sweep, the trim begins with such a sweep, and `trimmed` does
-   not count the keys that this sweep removes.
+   0, or has held one since its last sweep, the trim begins with a sweep at timestamp 0, and
+   `trimmed` does not count the keys that this sweep removes.
 
    A trim does not limit all of the memory that a shelf uses. The first sweep of a shelf visits all
    its keys, and from then on the shelf keeps the times at which its keys expire.
