@@ -638,8 +638,7 @@ struct rrcache_limits {
     }
 
 /* The timestamp at which to sweep. `rrcache_sweep` ignores `most`. `rrcache_sweep_some` makes at
-   most `most` sweeps. It stops earlier if it has removed at least `most` keys, or if no fully
-   expired key is left. */
+   most `most` sweeps, and makes no further sweep once it has removed at least `most` keys. */
 struct rrcache_sweep_at {
     uint64_t moment;
     uint64_t line;
