@@ -63,9 +63,9 @@
      still succeeds, and the next call that stores, forgets or sweeps entries of that shelf
      completes the eviction. `octets` covers only the keys, and an allocator may use more memory for
      them than is counted. So plan for two and a half times `octets`, and also for the memory that
-     the next item describes. The sum is about 2.575 times `octets`, plus 4 octets for each key that
-     `keys` allows. SECURITY.md has the measurements behind the factor of two and a half, and says
-     what was not measured.
+     the next item describes. In total, this is about 2.575 times `octets`, plus 4 octets for each
+     key that `keys` allows. SECURITY.md has the measurements behind the factor of two and a half,
+     and says what was not measured.
    - In addition, `rrcache_open` allocates the places, the memos, and a filter of the names that may
      be aliases. All memos together use at most 1/16 of `octets`, and at most about 460 KiB times
      `readers`. The filter of aliases uses at most about 1/80 of `octets`, and at most 128 KiB for
@@ -487,10 +487,10 @@ RRCACHE_API enum rrcache_status rrcache_sweep_all(struct rrcache *cache, uint64_
 #pragma GCC diagnostic ignored "-Wshadow"
 #endif
 
-/* Writes to `stats` the counts since the cache was opened, and the current numbers of keys and of
-   octets that these keys use. Each number is the sum over all shelves. The call reads one shelf
-   after another. While the call reads a shelf, look-ups in that shelf wait, as they do while a call
-   stores data in the shelf. */
+/* Writes to `stats` the counts since the cache was opened, the current number of keys, and the
+   number of octets that these keys use. Each number is the sum over all shelves. The call reads one
+   shelf after another. While the call reads a shelf, look-ups in that shelf wait, as they do while
+   a call stores data in the shelf. */
 RRCACHE_API enum rrcache_status rrcache_stats(struct rrcache *cache, struct rrcache_stats *stats);
 
 #if defined __cplusplus && defined __GNUC__

@@ -166,9 +166,9 @@
      the message only if it needs data that are not offered, such as data of a type that is not
      kept.
    - If a message answers its question, but nothing from it is stored for the question, the message
-     does not end a failure that is cached for the question. A miss is then still RRCACHE_FAILED
-     until the failure expires. To end the failure earlier, call `rrcache_offer_failure` with `ttl`
-     0.
+     does not end a failure that is cached for the question. Until the failure expires, a miss still
+     has the kind RRCACHE_FAILED. To end the failure earlier, call `rrcache_offer_failure` with
+     `ttl` 0.
    - A message from which nothing is stored does not change a cached RRset, unless an offer of the
      message has TTL 0 and clears the RRset. The unchanged RRset may still be returned, even as a
      stale answer. But under RFC 8767 section 4, an authoritative response (AA set) with RCODE
@@ -191,8 +191,8 @@
      If the timestamp of the call is lower than that of the entry, the age is 0, and `left` is the
      whole TTL of the entry. The field `age` of `struct rrcache_entry` is not this age, but a number
      of uses.
-   - If the caller's clock is set back by some seconds, all cached data live that many seconds
-     longer. Data that had expired, but have not yet been replaced, cleared, evicted or swept, may
+   - If the caller's clock is set back by some seconds, all cached data expire that many seconds
+     later. Data that had expired, but have not yet been replaced, cleared, evicted or swept, may
      answer again, and may prevent data of lower rank from being stored. If the clock is set
      forward, data expire early, and a sweep then removes entries that are fully expired according
      to that clock. Use a clock that cannot be set, and that keeps running while the machine is
@@ -281,17 +281,17 @@
    with the pointer is 0.
 
    The names of the exported functions that this header declares begin with `rrc_`. These functions
-   require pointers that are not null, and buffers that do not overlap. The inline functions below
-   check these conditions and then call an exported function. Of the inline functions that a
-   resolver calls, three do not call an exported function: `rrcache_compose_response`,
-   `rrcache_tell_octets` and `rrcache_status_text`. An inline function returns RRCACHE_NULL if a
-   required pointer is null. It returns RRCACHE_OVERLAP if anything that it writes, including the
-   handle, overlaps another output or an input. There is one exception: an output may overlap an
-   input struct that contains pointers, such as `struct rrcache_response`, and any input struct that
-   is passed in the same call as such a struct. The function reads these structs before it writes
-   anything. Inputs may overlap each other. The library cannot check whether a handle or a name was
-   initialized to zeros, whether two threads use one handle at the same time, or whether a buffer is
-   as large as the size that is passed with the buffer. */
+   require pointers that are not null, and buffers that do not overlap. The inline functions that a
+   resolver calls check these conditions and then call an exported function, except
+   `rrcache_compose_response`, `rrcache_tell_octets` and `rrcache_status_text`, which call no
+   exported function. An inline function returns RRCACHE_NULL if a required pointer is null. It
+   returns RRCACHE_OVERLAP if anything that it writes, including the handle, overlaps another output
+   or an input. There is one exception: an output may overlap an input struct that contains
+   pointers, such as `struct rrcache_response`, and any input struct that is passed in the same call
+   as such a struct. The function reads these structs before it writes anything. Inputs may overlap
+   each other. The library cannot check whether a handle or a name was initialized to zeros, whether
+   two threads use one handle at the same time, or whether a buffer is as large as the size that is
+   passed with the buffer. */
 #ifndef RRCACHE_SHELF_H
 #define RRCACHE_SHELF_H
 
@@ -571,9 +571,9 @@ struct rrcache_entry {
     uint64_t age;    /* not a time, but the number of uses of keys since the last use of this key.
                         The number of other keys used since then is at most `age`. A key is used
                         when an entry is stored under it, and when its entry answers an ask. In a
-                        reply, `age` has the value from before the call. An ask then moves the entry
-                        to the front of the LRU order, but a peek does not. If the entry is already
-                        at the front (`age` 0), an ask does not count as a use */
+                        reply, `age` has its value from before the ask or peek. An ask then moves
+                        the entry to the front of the LRU order, but a peek does not. If the entry
+                        is already at the front (`age` 0), an ask does not count as a use */
 };
 
 /* A reply. The first `owner_size` octets of the buffer are the owner of the RRset or, in a negative
@@ -648,8 +648,8 @@ struct rrcache_sweep_at {
 /* The result of `rrcache_sweep_some`. */
 struct rrcache_swept {
     uint64_t removed;
-    uint32_t is_done; /* 1 if no key is left that is fully expired at the timestamp, 0 if such a key
-                         may be left */
+    uint32_t is_done; /* 1 if no key is left that is fully expired at the given timestamp, 0 if such
+                         a key may be left */
 };
 
 /* The number of octets to which a shelf is trimmed, and the maximum number of keys to remove. */
@@ -709,8 +709,8 @@ struct rrcache_line {
    ABI of the library. These structs keep their size and their fields in all versions with the same
    soname. A later version of this header may add fields to `struct rrcache_parsed_response`,
    because only inline functions read this struct. Exported functions of rrcache.h read or write the
-   other structs below, but the inline functions of this header pass only the fields of these
-   structs to the library, never the structs themselves. */
+   other structs below. The inline functions of this header pass only the fields of these structs to
+   the library, never the structs themselves. */
 
 /* The query that a response has to answer. */
 struct rrcache_query {
@@ -1106,8 +1106,8 @@ static inline enum rrcache_status rrcache_free(struct rrcache_shelf *shelf)
    call writes the result to `name`; if the call fails, `name` is unmodified. The caller passes the
    result to the calls that look up a name in a shelf. `rrcache_make_name` never allocates, and
    needs no lock. Returns RRCACHE_BAD_RULES if `parts->count` is not in the range 1 to 64,
-   RRCACHE_BAD_SEED if the seed is all zeros, and RRCACHE_BAD_NAME if `octets` are not the wire form
-   of a name. */
+   RRCACHE_BAD_SEED if `parts->seed` is all zeros, and RRCACHE_BAD_NAME if `octets` are not the wire
+   form of a name. */
 static inline enum rrcache_status rrcache_make_name(struct rrcache_name *name,
                                                     const uint8_t *octets, size_t size,
                                                     const struct rrcache_parts *parts)
@@ -1674,13 +1674,12 @@ static inline enum rrcache_status rrcache_tell_octets(const struct rrcache_name 
 }
 
 /* Makes one of a handle's offers to `shelf`, and writes the outcome (`enum rrcache_outcome`) to
-   `outcome`. With this call, a caller that decides for itself which data to store, such as a
-   validator, can make only some of the offers of a message. `pick->index` is counted from 0. The
-   shelf must be the shelf of the offer's part. This part is the `part` of the name that
-   `rrcache_tell_offer` writes. The call does not check that the shelf is the right one. Returns
-   RRCACHE_NO_OFFERS if the handle has no offer with the number `pick->index`, and
-   RRCACHE_OTHER_SEED if the seed of the shelf is not the seed with which the message was read.
-   Needs the write lock of the shelf. */
+   `outcome`. With this call, a caller such as a validator can make only those offers of a message
+   that it accepts. `pick->index` is counted from 0. The shelf must be the shelf of the offer's
+   part. This part is the `part` of the name that `rrcache_tell_offer` writes. The call does not
+   check that the shelf is the right one. Returns RRCACHE_NO_OFFERS if the handle has no offer with
+   the number `pick->index`, and RRCACHE_OTHER_SEED if the seed of the shelf is not the seed with
+   which the message was read. Needs the write lock of the shelf. */
 static inline enum rrcache_status rrcache_offer_one(struct rrcache_shelf *shelf,
                                                     struct rrcache_offers *offers,
                                                     const struct rrcache_offer_pick *pick,
@@ -1736,9 +1735,10 @@ rrcache_offer_message_unchecked(struct rrcache_shelf *shelf,
 
 /* Does what `rrcache_offer_message_unchecked` does, but offers only the data of names in one part.
    Parts are counted from 0. Offers of other parts are neither made nor counted. Returns
-   RRCACHE_BAD_RULES if there is no such part or `parts->count` is not in the range 1 to 64,
-   RRCACHE_BAD_SEED if the seed is all zeros, and RRCACHE_OTHER_SEED if the shelf has another seed.
-   The other errors are those of `rrcache_offer_message_unchecked`. Needs the write lock. */
+   RRCACHE_BAD_RULES if there is no part with the number `share->part` or `parts->count` is not in
+   the range 1 to 64, RRCACHE_BAD_SEED if `parts->seed` is all zeros, and RRCACHE_OTHER_SEED if
+   `parts->seed` is not the seed of the shelf. The other errors are those of
+   `rrcache_offer_message_unchecked`. Needs the write lock. */
 static inline enum rrcache_status
 rrcache_offer_part_unchecked(struct rrcache_shelf *shelf, const struct rrcache_response *response,
                              const struct rrcache_parts *parts, const struct rrcache_share *share,
@@ -1890,11 +1890,12 @@ static inline enum rrcache_status rrcache_can_tell(const struct rrcache_shelf *s
 
    Returns RRCACHE_BAD_CHOICE if the question has an unknown purpose or mode, RRCACHE_BAD_TYPE if
    its type is 0 or its class is not kept, RRCACHE_BAD_NAME if `name` holds no name, and
-   RRCACHE_OTHER_SEED if the name was made under another seed. Returns RRCACHE_SMALL if the buffer
-   is too small: `told` then contains the reply and its sizes, and no event is written. The call
-   checks for RRCACHE_SMALL before RRCACHE_HISTORY_FULL and RRCACHE_MOMENT_TOO_LARGE, so a second
-   call with a large enough buffer may still fail. While the shelf is not recording, the call never
-   allocates and never returns RRCACHE_MEMORY. Needs the write lock.
+   RRCACHE_OTHER_SEED if the name was made under a seed that is not the seed of the shelf. Returns
+   RRCACHE_SMALL if the buffer is too small: `told` then contains the reply and its sizes, and no
+   event is written. The call checks for RRCACHE_SMALL before RRCACHE_HISTORY_FULL and
+   RRCACHE_MOMENT_TOO_LARGE, so a second call with a large enough buffer may still fail. While the
+   shelf is not recording, the call never allocates and never returns RRCACHE_MEMORY. Needs the
+   write lock.
 
    A reply needs at most 255 octets for its owner, plus the octets of its data. For data that
    `rrcache_read_response` read, 28,551 octets are always enough: 255 for the owner, 16,384 for the
@@ -1919,8 +1920,8 @@ static inline enum rrcache_status rrcache_ask(struct rrcache_shelf *shelf,
 
 /* Returns the reply that `rrcache_ask` would return, but writes no event and leaves the LRU order
    unchanged. The errors are those of `rrcache_ask`, except RRCACHE_HISTORY_FULL,
-   RRCACHE_MOMENT_TOO_LARGE and RRCACHE_MEMORY. So the timestamp may be above 2^40. The call never
-   allocates, and needs only the read lock. */
+   RRCACHE_MOMENT_TOO_LARGE and RRCACHE_MEMORY. So the timestamp of a peek may be above 2^40. The
+   call never allocates, and needs only the read lock. */
 static inline enum rrcache_status rrcache_peek(const struct rrcache_shelf *shelf,
                                                const struct rrcache_name *name,
                                                const struct rrcache_question *question,
@@ -1967,8 +1968,8 @@ static inline enum rrcache_status rrcache_peek(const struct rrcache_shelf *shelf
    A failure belongs to the name and type of the question. So with RRCACHE_STALE_IF_FAILED, an
    expired CNAME record may be returned as a stale answer only if the shelf holds a recent failure
    of the type of the question; a failure of type CNAME does not count. A failure of the question is
-   not a failure of the names to which the CNAME record leads. So if the reply to a peek for the
-   question with RRCACHE_NO_STALE has the kind RRCACHE_FAILED, ask for each name of the chain with
+   not a failure of the names to which the CNAME record leads. So peek for the question with
+   RRCACHE_NO_STALE. If the reply has the kind RRCACHE_FAILED, ask for each name of the chain with
    RRCACHE_STALE_NOW. If the shelf holds unexpired data of the type that are older than the failure,
    the peek returns these data instead. In this case, call `rrcache_tell_stored`: it returns the
    failure too, and the `number` fields of the entries show whether the failure was stored after the
@@ -2013,8 +2014,8 @@ static inline enum rrcache_status rrcache_peek_alias(const struct rrcache_shelf 
    has expired, and even if another entry answers the question. The call reads only the type and the
    class of the question, writes no event, and leaves the LRU order unchanged. Returns
    RRCACHE_BAD_TYPE if the type is 0 or the class is not kept, RRCACHE_BAD_NAME if `name` holds no
-   name, and RRCACHE_OTHER_SEED if the name was made under another seed. The call never allocates,
-   and needs only the read lock. */
+   name, and RRCACHE_OTHER_SEED if the name was made under a seed that is not the seed of the shelf.
+   The call never allocates, and needs only the read lock. */
 static inline enum rrcache_status rrcache_tell_stored(const struct rrcache_shelf *shelf,
                                                       const struct rrcache_name *name,
                                                       const struct rrcache_question *question,
