@@ -552,12 +552,12 @@ struct rrcache_question {
     uint32_t mode;    /* enum rrcache_mode */
 };
 
-/* The entry of a key. All fields are 0 if nothing is stored, and also in a reply of kind
-   RRCACHE_MISS or RRCACHE_FAILED. An auditor can look up `number` in the history of the shelf to
-   find the event that stored the entry. Two entries of one shelf never have the same `number`, but
-   entries of two shelves may. So a caller that keeps its own data about entries must look up these
-   data by the shelf and `number`, or by the name and `number`. The name can replace the shelf,
-   because all entries of a name are in one shelf. */
+/* The entry of a key. All fields are 0 if nothing is stored, and also if the reply to an ask or a
+   peek has the kind RRCACHE_MISS or RRCACHE_FAILED. An auditor can look up `number` in the history
+   of the shelf to find the event that stored the entry. Two entries of one shelf never have the
+   same `number`, but entries of two shelves may. So a caller that keeps its own data about entries
+   must look up these data by the shelf and `number`, or by the name and `number`. The name can
+   replace the shelf, because all entries of a name are in one shelf. */
 struct rrcache_entry {
     uint32_t kind;   /* enum rrcache_kind, or 0 if nothing is stored */
     uint32_t trust;  /* enum rrcache_trust; 0 for a failure */
