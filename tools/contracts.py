@@ -3,7 +3,7 @@
 """tools/contracts.py [--check]: writes docs/CONTRACTS-LIST.md, the list of all public clauses.
 
 The list is read from the Rattle sources of the library crates. A call is public if the crate's
-lib.rs exports the call, its type or its trait. In rrc_c, the C library, a call is public if the
+lib.rt exports the call, its type or its trait. In rrc_c, the C library, a call is public if the
 object file exports it. The list begins with all preconditions, each in the words of MEANINGS. With
 --check, nothing is written, and the status is 1 if the list is out of date. The sources must have
 the layout of `rt fmt`, which writes each clause on one line.
