@@ -235,10 +235,10 @@ struct rrcache_rrset {
                                    the TTL and the timestamp with which it was stored. A resolver
                                    can use them to decide when to prefetch. Two entries of one shelf
                                    never have the same `number`, but entries of two shelves may, and
-                                   no field identifies the shelf. So a caller that keeps data about
-                                   entries, such as a security status, must find these data by a
-                                   name together with `number`. The name is the owner or, for the
-                                   SOA record of a negative answer, `end`. In an answer from
+                                   no field identifies the shelf. So a caller that keeps a security
+                                   status or other data for each entry must look up these data by
+                                   both a name and `number`. The name is the owner or, for the SOA
+                                   record of a negative answer, `end`. In an answer from
                                    `rrcache_store`, `number` and `age` are 0: docs/RULES.md,
                                    "DNSSEC", says how the caller gets the `number` of the entry that
                                    was stored */
