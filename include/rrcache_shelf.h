@@ -1280,8 +1280,8 @@ static inline size_t rrcache_put_owner(struct rrcache_draft *draft,
 
 /* Appends the records of an RRset, and returns their number. If a compression pointer can lead to
    the owner of the first record, the records after the first have such a pointer as their owner. If
-   the owner is the name of the question, with letters in the same case, the owner of the first
-   record is a pointer to the name in the question. */
+   the owner of the RRset is spelled exactly like the name of the question, also in the case of its
+   letters, the owner of the first record is a compression pointer to that name. */
 static inline size_t rrcache_put_set(struct rrcache_draft *draft, const struct rrcache_query *query,
                                      const struct rrcache_parsed_set *set)
 {
@@ -2074,10 +2074,10 @@ static inline enum rrcache_status rrcache_next_expiry(const struct rrcache_shelf
 /* Sweeps in steps, so that a call usually takes little time. Each step is a sweep at the timestamp
    that `rrcache_next_expiry` would then return, and is one event. The call stops when that
    timestamp is later than `moment`, when at least `most` keys have been removed, or after `most`
-   steps. All keys that fully expire in the same second are removed in one step, and the first sweep
-   of a shelf visits all its keys. There may also be steps that remove no key. The call writes to
-   `swept` the number of keys that it removed. `swept->is_done` is 1 if no key is left that is fully
-   expired at `moment`, and 0 if such a key may be left.
+   steps. There are two exceptions: all keys that fully expire in the same second are removed in one
+   step, and the first sweep of a shelf visits all its keys. Some steps may remove no key. The call
+   writes to `swept` the number of keys that it removed. `swept->is_done` is 1 if no key is left
+   that is fully expired at `moment`, and 0 if such a key may be left.
 
    Returns RRCACHE_BAD_RULES if `most` is 0. If `moment` is above 2^40, the call returns
    RRCACHE_MOMENT_TOO_LARGE before the first step. Keys that were removed before an error stay
