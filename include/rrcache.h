@@ -19,9 +19,10 @@
      forked while several threads ran. Third, the callback of `rrcache_stop_recording_all` or
      `rrcache_dump` must not call any function on the same cache. A call may block on a lock. If a
      thread is canceled during a call (`pthread_cancel`, with deferred cancellation), the call ends
-     before the thread does. If a process with one thread forks, the parent and the child each have
-     their own copy of the cache. The two copies have the same seed, but neither process sees the
-     data that the other process stores after the fork. Processes cannot share a cache.
+     before the thread does. But a thread must not be canceled during a callback. If a process with
+     one thread forks, the parent and the child each have their own copy of the cache. The two
+     copies have the same seed, but neither process sees the data that the other process stores
+     after the fork. Processes cannot share a cache.
    - The library chooses the shelf of a name by a hash of the name. This hash is keyed with a secret
      seed. Each shelf has `readers` places (see `struct rrcache_config`). A place is a lock that one
      thread at a time holds during a look-up. The library assigns threads to these places in turn. A
@@ -217,9 +218,9 @@ struct rrcache_answer {
                                 otherwise 0. If an answer is stale, a second look-up with
                                 RRCACHE_NO_STALE returns this timestamp, or 0 if no failure is
                                 recent */
-    struct rrcache_name end; /* the name at the end of the CNAME chain. With RRCACHE_MISS, it is the
-                                name to query for. For a delegation, it is the owner of the NS
-                                RRset */
+    struct rrcache_name end; /* the name at the end of the CNAME chain. If a look-up returns
+                                RRCACHE_MISS, it is the name to query for. For a delegation, it is
+                                the owner of the NS RRset */
 };
 
 /* An RRset of an answer, in the form that `rrcache_compose_response` requires. In a negative
@@ -335,7 +336,10 @@ RRCACHE_API enum rrcache_status rrcache_lookup(struct rrcache *cache,
    does not count while an NXDOMAIN of its owner is the governing entry (docs/RULES.md, "What an ask
    answers"). The fields `rtype`, `mode` and `takes_glue` of the request are ignored. The DS RRset
    of a zone is in the parent zone (RFC 4035 section 2.4). So for a question of type DS, pass the
-   name without its first label. The errors are those of `rrcache_lookup`, except
+   name without its first label. If the servers of an RRset that was found cannot be used, for
+   example because their addresses are no longer cached, pass `end` without its first label to find
+   the delegation above. An expired NS RRset is found only by `rrcache_lookup` with type NS,
+   `takes_glue`, and a mode that allows stale data. The errors are those of `rrcache_lookup`, except
    RRCACHE_BAD_CHOICE. */
 RRCACHE_API enum rrcache_status rrcache_lookup_delegation(struct rrcache *cache,
                                                           const struct rrcache_request *request,

@@ -456,7 +456,8 @@ enum rrcache_response_kind {
                                       section 4.3.2) */
     RRCACHE_RESPONSE_ALIAS = 6,    /* a CNAME chain leads to a name that is out of bailiwick, or to
                                       a name for which the response neither has data nor denies that
-                                      there are data: send a query for the name */
+                                      there are data: look up the name, and send a query for it
+                                      if that is a miss */
     RRCACHE_RESPONSE_FAILURE = 7,  /* the RCODE is neither NOERROR nor NXDOMAIN */
     RRCACHE_RESPONSE_UNUSABLE = 8  /* none of the kinds above. For example, TC is set, the opcode is
                                       not QUERY, the class of the question is not kept, the name of

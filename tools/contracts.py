@@ -27,10 +27,10 @@ HEAD = """# List of contracts
 the library crates, by crate and file. [CONTRACTS.md](CONTRACTS.md) says what the clauses mean.
 
 An entry has the call, its preconditions after *requires*, and its clauses after *ensures*. Each
-clause has its name, and in parentheses the definitions that it cites
-([DEFINITIONS.md](DEFINITIONS.md) says in which file they are). A clause without parentheses cites
-only terms of the kit's standard library. What a type owes to a trait, such as `Clone`, is listed
-only if the type's source writes clauses for it.
+clause has its name, and in parentheses the definitions that it cites.
+[DEFINITIONS.md](DEFINITIONS.md) lists the files of these definitions, with the most important terms
+of each file. A clause without parentheses cites only terms of the kit's standard library. What a
+type owes to a trait, such as `Clone`, is listed only if the type's source writes clauses for it.
 
 ## Preconditions
 
