@@ -209,8 +209,9 @@ struct rrcache_answer {
                                 records. `kind` is then RRCACHE_MISS, and a query to a server will
                                 not help */
     bool with_dnames;        /* set by the caller. If true, the DNAME RRset from which a CNAME
-                                record was synthesized precedes the CNAME record, provided that the
-                                DNAME RRset is cached or is in the response (RFC 6672 section 3.1).
+                                record was synthesized precedes the CNAME record (RFC 6672 section
+                                3.1). In a look-up, the DNAME RRset has to be cached; in
+                                `rrcache_store`, it has to be in the answer section of the response.
                                 For each answer, the library tries at most 16 names as owners of
                                 DNAME RRsets. If the answer is from a look-up, each of these names
                                 counts as one more look-up in `struct rrcache_stats` */
