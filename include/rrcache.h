@@ -58,15 +58,15 @@
    - An answer is a copy in the caller's buffer. The copy stays valid after the entries that it came
      from are evicted and after `rrcache_close`, and does not count toward `octets`.
    - The keys use at most `octets` octets of memory, as `rrcache_sizes` counts them, except while a
-     call stores data. Each shelf may use only an equal share of `octets`, even if other shelves use
-     less than their share. A call that stores data in a shelf evicts the least recently used keys
-     of that shelf, if necessary, before it returns. If malloc fails during the eviction, the call
-     still succeeds, and the next call that stores, forgets or sweeps entries of that shelf
-     completes the eviction. `octets` covers only the keys, and an allocator may use more memory for
-     them than is counted. So plan for two and a half times `octets`, and also for the memory that
-     the next item describes. In total, this is about 2.575 times `octets`, plus 4 octets for each
-     key that `keys` allows. SECURITY.md has the measurements behind the factor of two and a half,
-     and says what was not measured.
+     call stores data, and after an eviction during which malloc failed. Each shelf may use only an
+     equal share of `octets`, even if other shelves use less than their share. A call that stores
+     data in a shelf evicts the least recently used keys of that shelf, if necessary, before it
+     returns. If malloc fails during the eviction, the call still succeeds, and the next call that
+     stores, forgets or sweeps entries of that shelf completes the eviction. `octets` covers only
+     the keys, and an allocator may use more memory for them than is counted. So plan for two and a
+     half times `octets`, and also for the memory that the next item describes. In total, this is
+     about 2.575 times `octets`, plus 4 octets for each key that `keys` allows. SECURITY.md has the
+     measurements behind the factor of two and a half, and says what was not measured.
    - In addition, `rrcache_open` allocates the places, the memos, and a filter of the names that may
      be aliases. All memos together use at most 1/16 of `octets`, and at most about 460 KiB times
      `readers`. The filter of aliases uses at most about 1/80 of `octets`, and at most 128 KiB for
@@ -338,10 +338,10 @@ RRCACHE_API enum rrcache_status rrcache_lookup(struct rrcache *cache,
    answers"). The fields `rtype`, `mode` and `takes_glue` of the request are ignored. The DS RRset
    of a zone is in the parent zone (RFC 4035 section 2.4). So for a question of type DS, pass the
    name without its first label. If the servers of an RRset that was found cannot be used, for
-   example because their addresses are no longer cached, pass `end` without its first label to find
-   the delegation above. An expired NS RRset is found only by `rrcache_lookup` with type NS,
-   `takes_glue`, and a mode that allows stale data. The errors are those of `rrcache_lookup`, except
-   RRCACHE_BAD_CHOICE. */
+   example because their addresses are no longer cached, pass a copy of `end` without its first
+   label to find the delegation above. An expired NS RRset is found only by `rrcache_lookup` with
+   type NS and a mode that allows stale data, and with `takes_glue` if the RRset came from a
+   referral. The errors are those of `rrcache_lookup`, except RRCACHE_BAD_CHOICE. */
 RRCACHE_API enum rrcache_status rrcache_lookup_delegation(struct rrcache *cache,
                                                           const struct rrcache_request *request,
                                                           struct rrcache_answer *answer);

@@ -173,8 +173,9 @@
      message has TTL 0 and clears the RRset. The unchanged RRset may still be returned, even as a
      stale answer. But under RFC 8767 section 4, an authoritative response (AA set) with RCODE
      NOERROR or NXDOMAIN counts as a refresh, and the old RRset should no longer be returned. So if
-     nothing is stored from such a response, the resolver should call `rrcache_offer_set` with `ttl`
-     0 and RRCACHE_AUTHORITATIVE_ANSWER to clear the RRset.
+     nothing from such a response is stored that governs the reply to its question (docs/RULES.md,
+     "What is not stored"), the resolver should call `rrcache_offer_set` with `ttl` 0 and
+     RRCACHE_AUTHORITATIVE_ANSWER to clear the RRset.
    - If the RCODE of a response is neither NOERROR nor NXDOMAIN, and the type of its question is
      kept, a failure of the question is offered, even if the RCODE is FORMERR, NOTIMP or REFUSED. If
      no cached data may answer the question, the reply is then RRCACHE_FAILED until the failure
@@ -2075,10 +2076,10 @@ static inline enum rrcache_status rrcache_next_expiry(const struct rrcache_shelf
 /* Sweeps in steps, so that a call usually takes little time. Each step is a sweep at the timestamp
    that `rrcache_next_expiry` would then return, and is one event. The call stops when that
    timestamp is later than `moment`, when at least `most` keys have been removed, or after `most`
-   steps. There are two exceptions: all keys that fully expire in the same second are removed in one
-   step, and the first sweep of a shelf visits all its keys. Some steps may remove no key. The call
-   writes to `swept` the number of keys that it removed. `swept->is_done` is 1 if no key is left
-   that is fully expired at `moment`, and 0 if such a key may be left.
+   steps. A call may take long in two cases: all keys that fully expire in the same second are
+   removed in one step, and the first sweep of a shelf visits all its keys. Some steps may remove no
+   key. The call writes to `swept` the number of keys that it removed. `swept->is_done` is 1 if no
+   key is left that is fully expired at `moment`, and 0 if such a key may be left.
 
    Returns RRCACHE_BAD_RULES if `most` is 0. If `moment` is above 2^40, the call returns
    RRCACHE_MOMENT_TOO_LARGE before the first step. Keys that were removed before an error stay
