@@ -142,8 +142,9 @@ def answered_by(answer):
 
 
 def run(way, asked):
-    """The waits, how many queries the forwarder got of the other client and asked upstream, and
-    what it took of processors and of memory, while names are asked in this way."""
+    """The waits, how many queries the forwarder got of the other client and how many of them it
+    answered after a fetch, and what it took of processors and of memory, while names are asked in
+    this way."""
     names, rtype, answer = WAYS[way]
     with Forwarder(Server(answered_by(answer)), program="forwarder") as it:
         for number in range(OTHERS):

@@ -93,7 +93,8 @@ def main(args):
         args, TITLE,
         f". For each of {len(found['glibc']) - 1} kinds of keys, a shelf got {args.keys:,} keys. "
         "While the shelf got the second half of these keys, the octets that the allocator had "
-        "handed out, as a multiple of the octets that `rrcache_sizes` returned, were "
+        "handed out since before the shelf was made, as a multiple of the octets that "
+        "`rrcache_sizes` returned, were "
         f"{' and '.join(said)}. Names had 3 to 255 octets. RRsets had 1 to 200 records of 4 to "
         "16,000 octets. SOA records of negative answers, with their owners, had 23 to 785 octets. "
         "Each kind was measured twice: on a shelf that was never swept, and on one that was swept "
