@@ -1,5 +1,5 @@
 # SPDX-License-Identifier: MIT
-"""Measures anew all that docs/PERFORMANCE.md tells, and writes it, in about 18 minutes."""
+"""Measures anew all that docs/PERFORMANCE.md tells, and writes it, in about 40 minutes."""
 import subprocess
 import sys
 

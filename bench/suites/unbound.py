@@ -63,19 +63,24 @@ OF_GROWTH = (
 BOUNDS = filled(
     "In the runs of asks for one name, memos answer the asks as long as nothing changes in the "
     "shelf of this name. A memo is an answer that a reader keeps. Zipf-distributed asks take fewer "
-    "instructions than those of unbound, but miss the second-level cache about as often. The "
-    "other calls take more instructions than those of unbound, and spend most of their "
-    "instructions in proved code. A look-up folds the name and hashes it under a secret seed, and "
-    "then peeks. A store reads and hashes the name a second time, checks the rdata, and counts "
-    "the octets of what it stores and evicts. A store that evicts also takes three blocks of "
-    "memory from `malloc` and frees three, and a store that replaces takes two and frees two. A "
-    "store would take fewer instructions if the proved call took the name that was already made. "
-    "Four processes with their own caches reach about four times the rate of one process, so "
-    "neither the processors nor the memory of the machine limit four threads (numbers above 4 "
-    "show how much the speed of a virtual machine varies). Four threads that use one cache reach "
-    "less with asks that hit and with puts. They share locks, cache lines that move between "
-    "processors, and blocks of memory that one thread allocates and another frees. How much each "
-    "of these costs was not measured.")
+    "instructions than those of unbound, but miss the second-level cache about as often. The other "
+    "calls take more instructions than those of unbound, and spend most of their instructions in "
+    "proved code. A look-up folds the name and hashes it under a secret seed, and then peeks. A "
+    "store reads and hashes the name a second time, checks the rdata, and counts the octets of "
+    "what it stores and evicts. A store that evicts also takes three blocks of memory from "
+    "`malloc` and frees three, and a store that replaces takes two and frees two. A store would "
+    "take fewer instructions if the proved call took the name that was already made. The table of "
+    "growth shows what limits several threads (numbers above the number of threads show how much "
+    "the speed of a virtual machine varies). Asks that hit grow in one cache as they do with own "
+    "caches, so sharing a cache costs them nothing that this table shows. Puts grow less in one "
+    "cache than on own shards. So what limits puts is that threads change the same shards: they "
+    "wait for locks, load cache lines that another processor has changed, and free memory that "
+    "another thread allocated. With jemalloc instead of glibc's malloc, puts grow about as much, "
+    "so the allocator is not the main cost. The three other threads use at most 3 of the 64 shards "
+    "at any time, so a put waits for a lock in at most one of 20 cases, and most of the cost is "
+    "due to cache lines. A put misses the first-level cache 25 to 29 times, and with unbound's "
+    "cache 15 times: it uses more cache lines, and each of them may have to come from another "
+    "processor.")
 KINDS = {"hit": "asks that hit", "zipf": "Zipf-distributed asks", "hot": "asks for one name",
          "replace": "puts that replace", "evict": "puts that evict"}
 # How tall the picture is, how tall its highest bar, and where the bars stand.
