@@ -2111,7 +2111,7 @@ static inline enum rrcache_status rrcache_sweep_some(struct rrcache_shelf *shelf
    `trimmed` does not count the keys that this sweep removes.
 
    A trim does not limit all of the memory that a shelf uses. The first sweep of a shelf visits all
-   its keys, and from then on the shelf keeps the times at which its keys expire.
+   its keys, and from then on the shelf keeps the times at which its keys fully expire.
    RRCACHE_ENTRY_OCTETS includes room for one expiry time per key, but for a while the shelf may
    keep more expiry times than keys. SECURITY.md reports how much memory trimmed shelves used in
    tests.
