@@ -49,9 +49,10 @@ def test_what_the_session_says_in_words_follows_from_its_tables():
     for stale in ("0", "86,400"):
         assert 2.5 < answered[256, stale] - answered[128, stale] < 3.5
     assert 7.5 < answered[128, "86,400"] - answered[128, "0"] < 8.5
+    assert 8.5 < answered[256, "86,400"] - answered[256, "0"] < 9.5
     said = " ".join(SESSION.split())
-    assert "another 8 % of the asks" in said
-    assert "asks that miss rises by about 3 percentage points" in said
+    assert "another 8 to 9 % of the asks" in said
+    assert "asks that miss is about 3 percentage points higher" in said
     rows = [it.split() for it in STEPS[4][1].splitlines()[1:]]
     told = [(f"{int(it[-1].replace(',', '')) / 1_000:.0f}k", f"{100 - float(it[-4]):.0f} %")
             for it in rows[2:]]
