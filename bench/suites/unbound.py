@@ -77,10 +77,10 @@ BOUNDS = filled(
     "wait for locks, load cache lines that another processor has changed, and free memory that "
     "another thread allocated. With jemalloc instead of glibc's malloc, puts grow about as much, "
     "so the allocator is not the main cost. The three other threads use at most 3 of the 64 shards "
-    "at any time, so a put waits for a lock in at most one of 20 cases, and most of the cost is "
-    "due to cache lines. A put misses the first-level cache 25 to 29 times, and with unbound's "
-    "cache 15 times: it uses more cache lines, and each of them may have to come from another "
-    "processor.")
+    "at any time, so a put should find its shard locked in at most one of 20 cases, and most of "
+    "the cost is probably due to cache lines; neither was measured. A put misses the first-level "
+    "cache 25 to 29 times, and with unbound's cache 15 times: it uses more cache lines, and each "
+    "of them may have to come from another processor.")
 KINDS = {"hit": "asks that hit", "zipf": "Zipf-distributed asks", "hot": "asks for one name",
          "replace": "puts that replace", "evict": "puts that evict"}
 # How tall the picture is, how tall its highest bar, and where the bars stand.
@@ -120,9 +120,11 @@ def built():
 
 def programs():
     """The programs, by the name of what is in them."""
-    unbound, work, own = built(), BESIDE / "work.c", (BESIDE / "rrcache.c", ARCHIVE)
+    unbound, work = built(), BESIDE / "work.c"
+    names = BESIDE / "sets.c"
+    own = (BESIDE / "rrcache.c", names, ARCHIVE)
     return {
-        "cache": compiled("beside_cache", work, BESIDE / "cache.c", ARCHIVE),
+        "cache": compiled("beside_cache", work, BESIDE / "cache.c", names, ARCHIVE),
         "rrcache": compiled("beside_rrcache", work, *own),
         "spinning": compiled("beside_spinning", "-DSPINS", work, *own),
         "peeking": compiled("beside_peeking", "-DPEEKS", work, *own),

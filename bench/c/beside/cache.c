@@ -15,17 +15,6 @@ void make_cache(size_t sets)
         fail("no cache");
 }
 
-unsigned shard_of(const struct name *name)
-{
-    return part_of(name);
-}
-
-void *begin_thread(unsigned number)
-{
-    (void)number;
-    return NULL;
-}
-
 void put(void *thread, const struct name *name, unsigned turn)
 {
     const uint8_t data[] = {0, 4, 192, 0, 2, (uint8_t)turn};

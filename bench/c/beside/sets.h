@@ -11,19 +11,7 @@
         7                                                                                          \
     }
 
-static inline void make_name(struct rrcache_name *made, const struct name *name)
-{
-    static const struct rrcache_parts parts = {SHARDS, SEED};
-    if (rrcache_make_name(made, name->octets, name->size, &parts) != RRCACHE_DONE)
-        fail("no name");
-}
-
-static inline unsigned part_of(const struct name *name)
-{
-    struct rrcache_name made = {0};
-    make_name(&made, name);
-    return (unsigned)made.part;
-}
+void make_name(struct rrcache_name *made, const struct name *name);
 
 static inline struct rrcache_set address_of(const struct name *name, const uint8_t *data,
                                             size_t size)
