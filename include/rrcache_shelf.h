@@ -965,9 +965,9 @@ uint32_t rrc_version(void);
 
 /* ---- The functions that a resolver calls. */
 
-/* Returns the version of the library with which the program is linked, in the form of
-   RRCACHE_VERSION, which is the version of the header. A library with another major version, or
-   with an older minor version, may lack functions that the header declares. */
+/* Returns the version of the library with which the program is linked, in the same form as
+   RRCACHE_VERSION, the version of the header. A library with a different major version or an older
+   minor version may lack functions that the header declares. */
 static inline uint32_t rrcache_version(void)
 {
     return rrc_version();
@@ -1046,15 +1046,16 @@ static inline const uint8_t *rrcache_octets(const uint8_t *octets, size_t size)
     return size == 0 ? &none : octets;
 }
 
-/* Whether a pointer can be used for `size` octets: the pointer is not null, or `size` is 0. */
+/* Returns whether a pointer can be used for `size` octets, that is, whether the pointer is not null
+   or `size` is 0. */
 static inline bool rrcache_is_there(const void *octets, size_t size)
 {
     return octets != NULL || size == 0;
 }
 
-/* Whether two ranges of memory overlap, that is, whether one of them begins within the other. An
-   empty range overlaps nothing. If `a` is above `b`, `b - a` wraps around, and is then larger than
-   the size of any object. */
+/* Returns whether two ranges of memory overlap, that is, whether one of them begins within the
+   other. An empty range overlaps nothing. If `a` is above `b`, `b - a` wraps around, and the result
+   is larger than the size of any object. */
 static inline bool rrcache_overlap(const void *one, size_t one_size, const void *other,
                                    size_t other_size)
 {
@@ -1062,8 +1063,8 @@ static inline bool rrcache_overlap(const void *one, size_t one_size, const void 
     return one_size != 0 && other_size != 0 && (b - a < one_size || a - b < other_size);
 }
 
-/* Whether a range of memory that a call reads overlaps either of two ranges that the call
-   writes. */
+/* Returns whether a range of memory that a call reads overlaps either of two ranges to which the
+   call writes. */
 static inline bool rrcache_touch(const void *one, size_t one_size, const void *other,
                                  size_t other_size, const void *read, size_t read_size)
 {
@@ -1071,7 +1072,8 @@ static inline bool rrcache_touch(const void *one, size_t one_size, const void *o
            || rrcache_overlap(other, other_size, read, read_size);
 }
 
-/* Whether the handle of a shelf overlaps an input or another output of a call on this shelf. */
+/* Returns whether the handle of a shelf overlaps an input or another output of a call on this
+   shelf. */
 static inline bool rrcache_holds(const struct rrcache_shelf *shelf, const void *octets, size_t size)
 {
     return rrcache_overlap(shelf, sizeof *shelf, octets, size);
@@ -1122,10 +1124,10 @@ static inline enum rrcache_status rrcache_make_name(struct rrcache_name *name,
     return (enum rrcache_status)rrc_make_name(rrcache_octets(octets, size), size, parts, name);
 }
 
-/* Starts to record the history of the shelf. The open chapter ends without being recorded, and the
-   next chapter begins with the entries of the shelf. The call takes as much memory and time as
-   closing a chapter in which every key was used. Replies do not change. If the shelf already
-   records, the call does nothing. Returns RRCACHE_HISTORY_FULL if the open chapter has the number
+/* Starts recording the history of the shelf. The open chapter ends without being recorded, and the
+   next chapter begins with the entries of the shelf. The call needs as much memory and time as
+   closing a chapter in which every key was used. Replies do not change. If the shelf is already
+   recording, the call does nothing. Returns RRCACHE_HISTORY_FULL if the open chapter has the number
    2^62. If the call fails, the shelf is unchanged. Needs the write lock. */
 static inline enum rrcache_status rrcache_record(struct rrcache_shelf *shelf)
 {
@@ -1135,7 +1137,7 @@ static inline enum rrcache_status rrcache_record(struct rrcache_shelf *shelf)
 }
 
 /* Stops recording, and frees all recorded events of the closed chapters and of the open chapter.
-   Replies do not change, and no key is lost. If the shelf does not record, the call does nothing.
+   Replies do not change, and no key is lost. If the shelf is not recording, the call does nothing.
    The call never allocates, and its only errors are RRCACHE_NULL and RRCACHE_NO_SHELF. Needs the
    write lock. */
 static inline enum rrcache_status rrcache_stop_and_drop(struct rrcache_shelf *shelf)
@@ -1145,7 +1147,7 @@ static inline enum rrcache_status rrcache_stop_and_drop(struct rrcache_shelf *sh
     return (enum rrcache_status)rrc_stop_and_drop(shelf);
 }
 
-/* Whether two lists of octets are equal. */
+/* Returns whether two sequences of octets are equal. */
 static inline bool rrcache_are_same(const uint8_t *one, size_t one_size, const uint8_t *other,
                                     size_t other_size)
 {
@@ -1155,7 +1157,7 @@ static inline bool rrcache_are_same(const uint8_t *one, size_t one_size, const u
     return at == one_size && at == other_size;
 }
 
-/* Whether octets are exactly one name in wire form. */
+/* Returns whether octets consist of exactly one name in wire form. */
 static inline bool rrcache_is_name(const uint8_t *octets, size_t size)
 {
     size_t at = 0;
@@ -1164,8 +1166,8 @@ static inline bool rrcache_is_name(const uint8_t *octets, size_t size)
     return size <= 255 && at + 1 == size && octets[at] == 0;
 }
 
-/* Returns the size of the rdata at a position, including the two octets of their length. Returns 0
-   at the end of the data, or if the rdata are cut off. */
+/* Returns the size of the rdata at the position `at`, including the two octets that contain their
+   length. Returns 0 at the end of the data, or if the rdata are cut off. */
 static inline size_t rrcache_datum_size(const struct rrcache_parsed_set *set, size_t at)
 {
     size_t left = set->data_size - at, size;
@@ -1175,7 +1177,7 @@ static inline size_t rrcache_datum_size(const struct rrcache_parsed_set *set, si
     return size <= left ? size : 0;
 }
 
-/* Whether all rdata of an RRset are complete. If there are no rdata, the result is true. */
+/* Returns whether all rdata of an RRset are complete. If there are no rdata, the result is true. */
 static inline bool rrcache_is_whole(const struct rrcache_parsed_set *set)
 {
     size_t at = 0, size;
@@ -1185,8 +1187,8 @@ static inline bool rrcache_is_whole(const struct rrcache_parsed_set *set)
 }
 
 /* Checks the pointers that the caller passes to `rrcache_compose_response`. Returns RRCACHE_NULL if
-   a required pointer is null, and RRCACHE_OVERLAP if one of the two outputs overlaps the other, or
-   overlaps octets or an array that the call reads. */
+   a required pointer is null, and RRCACHE_OVERLAP if the two outputs overlap each other, or if one
+   of them overlaps octets or an array that the call reads. */
 static inline enum rrcache_status rrcache_can_compose(const struct rrcache_query *query,
                                                       const struct rrcache_parsed_response *parsed,
                                                       const uint8_t *buffer, size_t room,
@@ -1214,8 +1216,8 @@ static inline enum rrcache_status rrcache_can_compose(const struct rrcache_query
     return overlap ? RRCACHE_OVERLAP : RRCACHE_DONE;
 }
 
-/* Checks whether a parsed response can be written as a message, and returns the first error that
-   applies. */
+/* Checks whether a parsed response can be written as a message. Returns the first error that
+   applies, or RRCACHE_DONE if none applies. */
 static inline enum rrcache_status rrcache_can_say(const struct rrcache_query *query,
                                                   const struct rrcache_parsed_response *parsed)
 {
@@ -1242,16 +1244,16 @@ static inline enum rrcache_status rrcache_can_say(const struct rrcache_query *qu
 /* The number of octets in the header of a message. The name of the question follows the header. */
 enum { RRCACHE_HEADER_OCTETS = 12 };
 
-/* A message that is being written to the front of a buffer. A piece that does not fit is counted in
-   `size` but not written. If the message gets longer than RRCACHE_MESSAGE_OCTETS, `size` stays at
-   RRCACHE_MESSAGE_OCTETS + 1. */
+/* A message that is being written to the beginning of a buffer. A piece that does not fit is
+   counted in `size` but not written. If the message becomes longer than RRCACHE_MESSAGE_OCTETS,
+   `size` stays at RRCACHE_MESSAGE_OCTETS + 1. */
 struct rrcache_draft {
     uint8_t *octets;
     size_t room;
     size_t size;
 };
 
-/* Appends `size` octets. `size` is at least 1. */
+/* Appends `size` octets to a draft. `size` is at least 1. */
 static inline void rrcache_put(struct rrcache_draft *draft, const uint8_t *octets, size_t size)
 {
     size_t left = RRCACHE_MESSAGE_OCTETS + 1 - draft->size, at;
@@ -1263,10 +1265,10 @@ static inline void rrcache_put(struct rrcache_draft *draft, const uint8_t *octet
     draft->size += size < left ? size : left;
 }
 
-/* Appends an owner. If the owner is already at the offset `place`, and a compression pointer can
-   lead there (RFC 1035 section 4.1.4), the call appends such a pointer. Otherwise, the call appends
-   the whole name. `place` is 0 if the owner has not been written yet. Returns the offset of the
-   owner. */
+/* Appends the owner of a record. If the owner has already been written at the offset `place`, and a
+   compression pointer can lead there (RFC 1035 section 4.1.4), the call appends such a pointer.
+   Otherwise, the call appends the whole name. `place` is 0 if the owner has not been written yet.
+   Returns the offset of the whole name. */
 static inline size_t rrcache_put_owner(struct rrcache_draft *draft,
                                        const struct rrcache_parsed_set *set, size_t place)
 {
@@ -1280,10 +1282,11 @@ static inline size_t rrcache_put_owner(struct rrcache_draft *draft,
     return stands ? place : here;
 }
 
-/* Appends the records of an RRset, and returns their number. If a compression pointer can lead to
-   the owner of the first record, the records after the first have such a pointer as their owner. If
-   the owner of the RRset is spelled exactly like the name of the question, also in the case of its
-   letters, the owner of the first record is a compression pointer to that name. */
+/* Appends the records of an RRset, and returns their number. If the owner of the RRset is spelled
+   exactly like the name of the question, including the case of its letters, the owner of each
+   record is a compression pointer to the name of the question. Otherwise, the owner of the first
+   record is the whole name. The owner of each later record is then a compression pointer to that
+   whole name or, if a pointer cannot lead there, the whole name again. */
 static inline size_t rrcache_put_set(struct rrcache_draft *draft, const struct rrcache_query *query,
                                      const struct rrcache_parsed_set *set)
 {
@@ -1322,9 +1325,8 @@ static inline void rrcache_put_section(struct rrcache_draft *draft,
     }
 }
 
-/* Writes as many pieces of a message as there is room for, and returns the size of the whole
-   message, or RRCACHE_MESSAGE_OCTETS + 1 if the message would have more than RRCACHE_MESSAGE_OCTETS
-   octets. */
+/* Writes as many pieces of a message as fit in the buffer. Returns the size of the whole message
+   or, if this size exceeds RRCACHE_MESSAGE_OCTETS, the number RRCACHE_MESSAGE_OCTETS + 1. */
 static inline size_t rrcache_put_response(const struct rrcache_query *query,
                                           const struct rrcache_parsed_response *parsed,
                                           uint8_t *octets, size_t room)
@@ -1349,26 +1351,26 @@ static inline size_t rrcache_put_response(const struct rrcache_query *query,
 }
 
 /* Makes a message (RFC 1035 section 4) from a response that a resolver parsed itself. The call
-   writes the message to the front of a buffer, and the size of the message to `size`. The caller
-   then passes the message to `rrcache_read_response`, with the same query, like any other response.
-   So the rules on relevance, ranks, negative answers, referrals and failures apply to the parsed
-   response too. `rrcache_compose_response` never allocates and needs no lock. The time that the
-   call takes is linear in the number of octets of its arguments.
+   writes the message to the beginning of `buffer`, and the size of the message to `size`. The
+   caller then passes the message to `rrcache_read_response`, with the same query, like any other
+   response. So the rules on relevance, ranks, negative answers, referrals and failures apply to the
+   parsed response too. `rrcache_compose_response` never allocates and needs no lock. The time that
+   the call takes is linear in the number of octets of its arguments.
 
    Before this call, the caller must check that the response has QR set and the opcode QUERY, and
-   must compare its identifier and question with those of the query (RFC 5452 section 9.1). If
-   `with_case` of the query is set, the caller must also compare the case of the letters in the
-   name. The new message has QR set, the opcode QUERY, RD clear, and the identifier and question of
-   the query, even if the response had other values. So reading the new message with the same query
-   never causes RRCACHE_OTHER_QUERY.
+   must compare the identifier and the question of the response with those of the query (RFC 5452
+   section 9.1). If `with_case` of the query is set, the caller must also compare the case of the
+   letters in the name. The new message has QR set, the opcode QUERY, RD clear, and the identifier
+   and question of the query, even if the response had other values. So `rrcache_read_response`
+   never returns RRCACHE_OTHER_QUERY for the new message and the same query.
 
    In the message, the RRsets of a section are in the order of the array `sets`, and the records of
    an RRset are in the order of its data. If the records of an RRset have different TTLs, pass one
    `struct rrcache_parsed_set` for each record. When the message is read, all sets with the same
    owner, type and class in a section become one RRset. An OPT record may be left out, because it
    causes no offer. If data do not match the layout of their type, the call that reads the message
-   returns RRCACHE_BAD_MESSAGE. Names in the data must not have compression pointers, because a
-   pointer would lead to a wrong offset in the new message. `rrcache_compose_response` does not
+   returns RRCACHE_BAD_MESSAGE. Names in the data must not contain compression pointers, because a
+   pointer would lead to the wrong offset in the new message. `rrcache_compose_response` does not
    check for such pointers.
 
    Returns RRCACHE_BAD_CHOICE if `section` of a set is not a value of `enum rrcache_section` or the
@@ -1376,7 +1378,7 @@ static inline size_t rrcache_put_response(const struct rrcache_query *query,
    reserves type 0 and class 0); RRCACHE_BAD_NAME if an owner or the name of the query is not in
    wire form; RRCACHE_BAD_DATA if the last rdata of a set are cut off; and RRCACHE_WRONG_BODY if a
    set has no data. Returns RRCACHE_SMALL if the buffer is too small: the buffer is then unmodified,
-   and `size` is the size of the message. If the message would have more than RRCACHE_MESSAGE_OCTETS
+   and `size` is the required size. If the message would have more than RRCACHE_MESSAGE_OCTETS
    octets, no buffer is large enough, and `size` is RRCACHE_MESSAGE_OCTETS + 1. The new message may
    be too large even if the response was not, because only owners are compressed in the new message.
    In this case, leave out the additional section. */
@@ -1404,7 +1406,7 @@ rrcache_compose_response(const struct rrcache_query *query,
     return status;
 }
 
-/* Checks the pointers of a call that reads a response and writes two ranges of memory. Returns
+/* Checks the pointers of a call that reads a response and writes to two ranges of memory. Returns
    RRCACHE_NULL if a required pointer is null, and RRCACHE_OVERLAP if the two ranges overlap each
    other, or if one of them overlaps the octets of the response or the zone. */
 static inline enum rrcache_status rrcache_can_read(const struct rrcache_response *response,
@@ -1423,7 +1425,7 @@ static inline enum rrcache_status rrcache_can_read(const struct rrcache_response
 }
 
 /* Reads a response to a query that the resolver sent to a server of `response->zone`. `offers` must
-   be a handle that holds no offers. After the call, the handle holds the offers of the response
+   be a handle that holds no offers. After the call, the handle holds those offers of the response
    that are relevant to the query. In `concerned`, the call reports which parts these offers are
    for: bit 0 is set if there is an offer for part 0, bit 1 if there is an offer for part 1, and so
    on. The caller can then make the offers to shelves with `rrcache_offer_read` or
@@ -1440,29 +1442,28 @@ static inline enum rrcache_status rrcache_can_read(const struct rrcache_response
 
    The call reads the header and the question of the message first, and compares the identifier and
    the question with those of the query (RFC 5452 section 9.1). If either differs, the call returns
-   RRCACHE_OTHER_QUERY and does not read the rest of the message. So the rejection of such a message
-   takes almost no time. Anyone may have sent such a message, so the caller drops it and keeps
-   waiting for the response. The call also returns RRCACHE_OTHER_QUERY if the message is too short
-   for a header, or if QR is clear. If `with_case` of the query is set, a name with a letter in
-   another case counts as different. A name that is written with a compression pointer always counts
-   as different. Two errors count as failures of the server (RFC 8767 section 5):
-   RRCACHE_NO_QUESTION, which means that the response is a header without a question, and
-   RRCACHE_BAD_MESSAGE, which means that the message answers the query but cannot be read. If TC is
-   set, RRCACHE_BAD_MESSAGE is not a failure: send the query again over TCP. If a server returns
-   FORMERR without a question, the reason may be that the server does not support EDNS (RFC 6891
-   section 7).
+   RRCACHE_OTHER_QUERY and does not read the rest of the message. So the time to reject such a
+   message does not depend on the length of the message. Anyone may have sent the message, so the
+   caller should drop it and keep waiting for the response. The call also returns
+   RRCACHE_OTHER_QUERY if the message is too short for a header, or if QR is clear. If `with_case`
+   of the query is set, a name with a letter in a different case counts as different. A name that is
+   written with a compression pointer always counts as different. Two errors count as failures of
+   the server (RFC 8767 section 5): RRCACHE_NO_QUESTION, which means that the response is a header
+   without a question, and RRCACHE_BAD_MESSAGE, which means that the message answers the query but
+   cannot be read. If TC is set, RRCACHE_BAD_MESSAGE is not a failure: send the query again over
+   TCP. If a server returns FORMERR without a question, the reason may be that the server does not
+   support EDNS (RFC 6891 section 7).
 
    The following data are relevant:
-   - In the answer section, an RRset is relevant if two conditions hold. First, its owner is the
+   - In the answer section, an RRset is relevant if it meets two conditions. First, its owner is the
      name of the question, or one of at most 11 names to which CNAME records lead from that name.
      Second, its type is the type of the question or CNAME; for a question of type ANY, any type is
      allowed. A DNAME RRset is also relevant if its owner is above the name of the question or above
-     one of the at most 11 other names. For a question of type CNAME or ANY, no CNAME record is
-     followed.
+     one of those other names. For a question of type CNAME or ANY, no CNAME record is followed.
    - In the authority section, for each of the types NS, SOA and DS, the first RRset whose owner is
      at or above the final name is relevant. The final name is the name at the end of the CNAME
-     chain that begins at the name of the question. A chain of more than 16 CNAME records has no
-     final name.
+     chain that begins at the name of the question. If no CNAME record is followed, the final name
+     is the name of the question. A chain of more than 16 CNAME records has no final name.
    - In the additional section, the A and AAAA RRsets of hosts are relevant. The hosts are the first
      20 names in the rdata of relevant NS, MX and SRV RRsets. The names in NS RRsets come first;
      apart from that, the names are in the order of the first records of their RRsets. A name that
@@ -1476,23 +1477,23 @@ static inline enum rrcache_status rrcache_can_read(const struct rrcache_response
      (RFC 4035 section 2.4).
    - An NS RRset of the authority section, unless the question asks for this RRset or the response
      is a referral (RFC 1034 section 4.3.2). This restriction prevents the servers of a zone from
-     renewing the delegation of the zone with NS records that they add to the authority section of
-     other responses. In a referral, AA is clear and the owner of the NS RRset is below `zone`. A
-     repeated referral renews its NS RRset. To make a delegation end when the TTL from its first
-     referral runs out, the caller peeks for the NS RRset of each referral before it makes the
-     offers of that referral. If an unexpired NS RRset with the same data is cached, the caller does
-     not make the offers for the part to which the owner of this RRset belongs.
+     renewing the delegation of the zone by adding NS records to the authority section of other
+     responses. In a referral, AA is clear and the owner of the NS RRset is below `zone`. A repeated
+     referral renews its NS RRset. A caller that wants a delegation to end when the TTL from its
+     first referral runs out must peek for the NS RRset of each referral before it makes the offers
+     of that referral. If an unexpired NS RRset with the same data is cached, the caller must not
+     make the offers for the part to which the owner of this RRset belongs.
    - An RRset with more than 16,384 octets of rdata.
-   - In class IN, an RRset of type A with rdata that are not 4 octets long, or an RRset of type AAAA
-     with rdata that are not 16 octets long.
+   - In class IN, an RRset of type A if any of its rdata are not 4 octets long, or an RRset of type
+     AAAA if any of its rdata are not 16 octets long.
 
    Under these rules, a server that is queried for one name can replace the cached data of another
    name only in three cases. First, CNAME records in the server's response lead from the name of the
    question to the other name. Second, the other name is a host in NS, MX or SRV records of the
    response. Third, the response has NS, SOA, DS or DNAME records of the other name, and the other
-   name is above the name of the question or above a name to which CNAME records lead from that
-   name. Even in these cases, an NS or DS RRset that the list above excludes does not replace cached
-   data. */
+   name is above the name of the question or above a name to which CNAME records lead from the name
+   of the question. Even in these cases, an NS or DS RRset that the list above excludes does not
+   replace cached data. */
 static inline enum rrcache_status rrcache_read_response(struct rrcache_offers *offers,
                                                         const struct rrcache_response *response,
                                                         const struct rrcache_query *query,
@@ -1550,15 +1551,15 @@ rrcache_read_message_unchecked(struct rrcache_offers *offers,
         concerned);
 }
 
-/* Makes offers to the shelf of one part: all offers that a handle holds for this part, with the
-   timestamp of the response. The number of the part is `share->part`. It is counted from 0, and
-   must be below the number of parts for which the message was read. The handle keeps the offers, so
-   the caller may make the offers for a part again. The shelf keeps its stored data even after the
-   offers of the handle are freed. The call copies no names and no data. In `counts`, it reports how
-   many of the offers had each outcome. If an offer fails, `counts` covers only the offers before
-   it. Returns RRCACHE_BAD_RULES if there is no part with the number `share->part`. Returns
-   RRCACHE_OTHER_SEED if the message was read with a seed that is not the seed of the shelf, because
-   asks would not find the data in this shelf. Needs the write lock of the shelf. */
+/* Makes all offers that a handle holds for one part. The offers are made to the shelf of this part,
+   with the timestamp of the response. `share->part` is the number of the part: it is counted from
+   0, and must be below the number of parts for which the message was read. The handle keeps the
+   offers, so the caller may make the offers for a part again. The shelf keeps its stored data even
+   after the offers of the handle are freed. The call copies no names and no data. In `counts`, the
+   call reports how many of the offers had each outcome. If an offer fails, `counts` covers only the
+   earlier offers. Returns RRCACHE_BAD_RULES if there is no part with the number `share->part`.
+   Returns RRCACHE_OTHER_SEED if the message was read with a seed that is not the seed of the shelf,
+   because asks would not find the data in this shelf. Needs the write lock of the shelf. */
 static inline enum rrcache_status rrcache_offer_read(struct rrcache_shelf *shelf,
                                                      struct rrcache_offers *offers,
                                                      const struct rrcache_share *share,
@@ -1575,11 +1576,11 @@ static inline enum rrcache_status rrcache_offer_read(struct rrcache_shelf *shelf
 }
 
 /* Writes to `summary` the RCODE, AA and TC of a response that was read into a handle, and the kind
-   of the response (`enum rrcache_response_kind`). For a referral, the call writes the zone of the
-   referral to `name`; for an alias, it writes the name to which the CNAME chain leads. In both
-   cases, `name` is made under the seed with which the response was read. For any other kind, `name`
-   is unmodified. The call never allocates and needs no lock, and its only errors are RRCACHE_NULL,
-   RRCACHE_OVERLAP and RRCACHE_NO_OFFERS. */
+   of the response (`enum rrcache_response_kind`). For a referral, the call writes to `name` the
+   name of the delegated zone; for an alias, it writes the name to which the CNAME chain leads. In
+   both cases, `name` is made under the seed with which the response was read. For any other kind,
+   `name` is unmodified. The call never allocates and needs no lock, and its only errors are
+   RRCACHE_NULL, RRCACHE_OVERLAP and RRCACHE_NO_OFFERS. */
 static inline enum rrcache_status rrcache_tell_response(struct rrcache_offers *offers,
                                                         struct rrcache_name *name,
                                                         struct rrcache_summary *summary)
@@ -1626,15 +1627,15 @@ static inline enum rrcache_status rrcache_tell_offer(struct rrcache_offers *offe
                                                buffer_size == 0 ? &none : buffer, buffer_size);
 }
 
-/* Returns how many octets are used to hold a name or rdata of `size` octets, either inline or in a
-   separate block. */
+/* Returns how many octets of memory a name or rdata of `size` octets use, whether they are stored
+   inline or in a separate block. */
 static inline uint64_t rrcache_room(uint64_t size)
 {
     return RRCACHE_VALUE_OCTETS + (size <= RRCACHE_INLINE_OCTETS ? 0 : RRCACHE_BLOCK_OCTETS + size);
 }
 
-/* Returns how many octets the data of an entry use. `data` are the octets that follow the owner in
-   a reply. */
+/* Returns how many octets of memory the data of an entry use. `data` are the octets that follow the
+   owner in a reply. */
 static inline uint64_t rrcache_data_room(const uint8_t *data, uint64_t size)
 {
     uint64_t at = 0, count = 0, octets = RRCACHE_SHARED_OCTETS;
@@ -1648,8 +1649,8 @@ static inline uint64_t rrcache_data_room(const uint8_t *data, uint64_t size)
 }
 
 /* Writes to `octets` how many octets of memory an offer would use if it were stored under a new
-   key. These octets are counted as `rrcache_sizes` counts them. `name`, `told` and `buffer` are the
-   output of `rrcache_tell_offer`. If an offer would use more octets than the limit to which the
+   key. The call counts octets in the same way as `rrcache_sizes`. `name`, `told` and `buffer` are
+   the output of `rrcache_tell_offer`. If an offer would use more octets than the limit to which the
    caller trims the shelf, the trim after this offer would evict all keys. To avoid this, the caller
    can make only the other offers of the message, with `rrcache_offer_one`, and answer the waiting
    client from the output of `rrcache_tell_offer`. Returns RRCACHE_SMALL if `buffer_size` is less
@@ -1675,13 +1676,14 @@ static inline enum rrcache_status rrcache_tell_octets(const struct rrcache_name 
     return RRCACHE_DONE;
 }
 
-/* Makes one of a handle's offers to `shelf`, and writes the outcome (`enum rrcache_outcome`) to
+/* Makes one of the offers of a handle, and writes the outcome (`enum rrcache_outcome`) to
    `outcome`. With this call, a caller such as a validator can make only those offers of a message
-   that it accepts. `pick->index` is counted from 0. The shelf must be the shelf of the offer's
-   part. This part is the `part` of the name that `rrcache_tell_offer` writes. The call does not
-   check that the shelf is the right one. Returns RRCACHE_NO_OFFERS if the handle has no offer with
-   the number `pick->index`, and RRCACHE_OTHER_SEED if the seed of the shelf is not the seed with
-   which the message was read. Needs the write lock of the shelf. */
+   that it accepts. `pick->index` is the number of the offer, counted from 0. The offer is made to
+   `shelf`, which must be the shelf of the offer's part: the `part` of the name that
+   `rrcache_tell_offer` writes. The call does not check that the shelf is the right one. Returns
+   RRCACHE_NO_OFFERS if the handle has no offer with the number `pick->index`, and
+   RRCACHE_OTHER_SEED if the seed of the shelf is not the seed with which the message was read.
+   Needs the write lock of the shelf. */
 static inline enum rrcache_status rrcache_offer_one(struct rrcache_shelf *shelf,
                                                     struct rrcache_offers *offers,
                                                     const struct rrcache_offer_pick *pick,
@@ -1698,8 +1700,8 @@ static inline enum rrcache_status rrcache_offer_one(struct rrcache_shelf *shelf,
 }
 
 /* Frees the offers of a handle. The handle then holds no offers. Shelves keep the data that they
-   stored. Returns RRCACHE_NO_OFFERS if no call has filled the handle, or if its offers have already
-   been freed. Does not need the lock of a shelf. */
+   have stored. Returns RRCACHE_NO_OFFERS if no call has filled the handle, or if its offers have
+   already been freed. Does not need the lock of a shelf. */
 static inline enum rrcache_status rrcache_free_offers(struct rrcache_offers *offers)
 {
     if (offers == NULL)
@@ -1709,12 +1711,12 @@ static inline enum rrcache_status rrcache_free_offers(struct rrcache_offers *off
 
 /* Offers to a shelf all data of a response that are in bailiwick: the RRsets of the response, and
    its negative answer or failure. Data of names that belong to other shelves are offered to this
-   shelf too. If there are other shelves, call `rrcache_read_message_unchecked` instead, and then
+   shelf too. So if there are other shelves, call `rrcache_read_message_unchecked` instead, and then
    `rrcache_offer_read` for each shelf that the message concerns. `rrcache_offer_message_unchecked`
    does not compare the response with a query, and ignores `lowest_ttl` and `clears_denied`. Nothing
    is offered from a response with TC set ("What is stored" above). In `counts`, the call reports
-   how many of the offers had each outcome. If an offer fails, `counts` covers only the offers
-   before it. Returns RRCACHE_BAD_LIMITS if a limit is out of range, RRCACHE_BAD_NAME if the zone is
+   how many of the offers had each outcome. If an offer fails, `counts` covers only the earlier
+   offers. Returns RRCACHE_BAD_LIMITS if a limit is out of range, RRCACHE_BAD_NAME if the zone is
    not in wire form, and RRCACHE_BAD_MESSAGE if the octets cannot be read as a response. Needs the
    write lock. */
 static inline enum rrcache_status
@@ -1736,7 +1738,7 @@ rrcache_offer_message_unchecked(struct rrcache_shelf *shelf,
 }
 
 /* Does what `rrcache_offer_message_unchecked` does, but offers only the data of names in one part.
-   Parts are counted from 0. Offers of other parts are neither made nor counted. Returns
+   Parts are counted from 0. Offers for other parts are neither made nor counted. Returns
    RRCACHE_BAD_RULES if there is no part with the number `share->part` or `parts->count` is not in
    the range 1 to 64, RRCACHE_BAD_SEED if `parts->seed` is all zeros, and RRCACHE_OTHER_SEED if
    `parts->seed` is not the seed of the shelf. The other errors are those of
@@ -1764,13 +1766,13 @@ rrcache_offer_part_unchecked(struct rrcache_shelf *shelf, const struct rrcache_r
 }
 
 /* Offers an RRset under its owner, and writes the outcome to `outcome` (`enum rrcache_outcome`). To
-   flush an RRset or NODATA, offer an RRset with `ttl` 0, RRCACHE_AUTHORITATIVE_ANSWER and any valid
-   data of the type. Such an offer clears the RRset or NODATA that the shelf holds for the name,
-   class and type. To flush an NXDOMAIN, call `rrcache_offer_negative` with RRCACHE_NXDOMAIN,
-   RRCACHE_AUTHORITATIVE_ANSWER, `ttl` 0 and any SOA record, such as one with the root as its owner
-   and 22 zero octets as its rdata. No call flushes all names below a given name. Replies contain
-   the data exactly as they were offered, so the caller has to leave out duplicate records (RFC 2181
-   section 5).
+   flush an RRset or NODATA, offer an RRset with `ttl` 0, the rank RRCACHE_AUTHORITATIVE_ANSWER and
+   any valid data of the type. Such an offer clears the RRset or NODATA that the shelf holds for the
+   name, class and type. To flush an NXDOMAIN, call `rrcache_offer_negative` with the kind
+   RRCACHE_NXDOMAIN, the rank RRCACHE_AUTHORITATIVE_ANSWER, `ttl` 0 and any SOA record, such as one
+   with the root as its owner and 22 zero octets as its rdata. No call flushes all names below a
+   given name. Replies contain the data exactly as they were offered, so the caller has to leave out
+   duplicate records (RFC 2181 section 5).
 
    Returns RRCACHE_BAD_CHOICE if `trust` is not a rank, RRCACHE_BAD_TYPE if data of the type are not
    kept in the class, RRCACHE_BAD_NAME if the owner is not in wire form, RRCACHE_BAD_DATA if the
@@ -1841,11 +1843,11 @@ static inline enum rrcache_status rrcache_offer_negative(struct rrcache_shelf *s
 /* Offers a resolution failure of a name, a class and a type (RFC 9520). A failure is always stored,
    so `outcome` is RRCACHE_KEPT. A failure with `ttl` 0 replaces the failure that the shelf holds
    for the name, class and type, and so ends that failure. No ask or peek returns a failure with
-   `ttl` 0. Such a failure occupies a key even if there is no failure to end, and may then evict
-   another key. So offer a failure with `ttl` 0 only if a reply or an entry of kind RRCACHE_FAILED
-   has shown that the shelf holds a failure of this name, class and type. Returns RRCACHE_BAD_TYPE
-   if data of the type are not kept in the class, RRCACHE_BAD_NAME if the name is not in wire form,
-   and RRCACHE_WRONG_BODY if `ttl` is above 2^31 - 1. Needs the write lock. */
+   `ttl` 0. Even if there is no failure to end, a failure with `ttl` 0 occupies a key, and storing
+   it may evict another key. So offer a failure with `ttl` 0 only if a reply or an entry of kind
+   RRCACHE_FAILED has shown that the shelf holds a failure of this name, class and type. Returns
+   RRCACHE_BAD_TYPE if data of the type are not kept in the class, RRCACHE_BAD_NAME if the name is
+   not in wire form, and RRCACHE_WRONG_BODY if `ttl` is above 2^31 - 1. Needs the write lock. */
 static inline enum rrcache_status rrcache_offer_failure(struct rrcache_shelf *shelf,
                                                         const struct rrcache_failure *failure,
                                                         uint32_t *outcome)
@@ -1888,7 +1890,7 @@ static inline enum rrcache_status rrcache_can_tell(const struct rrcache_shelf *s
 }
 
 /* Looks up the answer to a question. The call is one event, and the entry that gives the answer
-   moves to the front of the LRU order. The call writes the reply to `told` and to the buffer.
+   moves to the front of the LRU order. The call writes the reply to `told` and `buffer`.
 
    Returns RRCACHE_BAD_CHOICE if the question has an unknown purpose or mode, RRCACHE_BAD_TYPE if
    its type is 0 or its class is not kept, RRCACHE_BAD_NAME if `name` holds no name, and
@@ -1901,8 +1903,7 @@ static inline enum rrcache_status rrcache_can_tell(const struct rrcache_shelf *s
 
    A reply needs at most 255 octets for its owner, plus the octets of its data. For data that
    `rrcache_read_response` read, 28,551 octets are always enough: 255 for the owner, 16,384 for the
-   rdata, and 2 for the length of the rdata of each record. At most 5,956 records fit in a
-   message. */
+   rdata, and 2 for the length of each record's rdata. At most 5,956 records fit in a message. */
 static inline enum rrcache_status rrcache_ask(struct rrcache_shelf *shelf,
                                               const struct rrcache_name *name,
                                               const struct rrcache_question *question,
@@ -1940,14 +1941,14 @@ static inline enum rrcache_status rrcache_peek(const struct rrcache_shelf *shelf
                                          buffer_size == 0 ? &none : buffer, buffer_size);
 }
 
-/* Looks up the data of the question's type or the CNAME record of the name. Like `rrcache_ask`, the
-   call is one event. `told->rtype` is 5 if the reply is the CNAME record, and otherwise the type of
-   the question. The errors are those of `rrcache_ask`. Needs the write lock.
+/* Looks up either the data of the question's type or the CNAME record of the name. Like
+   `rrcache_ask`, the call is one event. `told->rtype` is 5 if the reply is the CNAME record, and
+   otherwise the type of the question. The errors are those of `rrcache_ask`. Needs the write lock.
 
-   The reply is the CNAME record if two conditions hold. First, a question for type CNAME would get
-   the record as a fresh answer or as an acceptable stale answer. Second, the record takes
-   precedence over the reply for the type of the question. The record takes precedence in each of
-   these cases:
+   The reply is the CNAME record if two conditions hold. First, the record would answer a question
+   of type CNAME, either as a fresh answer or as an acceptable stale answer. Second, the record
+   takes precedence over the reply for the type of the question. The record takes precedence in each
+   of these cases:
    - The reply for the type is RRCACHE_MISS or RRCACHE_FAILED.
    - The record was stored later than the entry that gives the reply for the type, unless that entry
      is unexpired and of higher rank.
@@ -1955,13 +1956,12 @@ static inline enum rrcache_status rrcache_peek(const struct rrcache_shelf *shelf
      unexpired and of higher rank.
 
    By these rules, the call chooses between the CNAME record and the data of the type in the same
-   way as an ask chooses between an RRset and an NXDOMAIN. As a result, if an address has expired,
-   and a CNAME record that is newer than the address may be returned, the call returns the CNAME
-   record (RFC 8767 section 7). If either of the two conditions above does not hold, the call
-   returns the reply for the type of the question. For a question of type CNAME or ANY, the call
-   always returns the reply for the type (RFC 1034 section 4.3.2). The same applies to a question of
-   type NSEC or RRSIG, because a name with a CNAME record may have NSEC and RRSIG records of its own
-   (RFC 4035 section 2.5).
+   way as an ask chooses between an RRset and an NXDOMAIN. As a result, if an address has expired
+   and a newer CNAME record may be returned, the call returns the CNAME record (RFC 8767 section 7).
+   If either of the two conditions above does not hold, the call returns the reply for the type of
+   the question. For a question of type CNAME or ANY, the call always returns the reply for the type
+   (RFC 1034 section 4.3.2). The same applies to a question of type NSEC or RRSIG, because a name
+   with a CNAME record may have NSEC and RRSIG records of its own (RFC 4035 section 2.5).
 
    If the reply is the CNAME record, the resolver then asks for the target of the record, under the
    lock of the target's shelf. The target is the name in the first rdata. The resolver ignores any
@@ -1970,12 +1970,12 @@ static inline enum rrcache_status rrcache_peek(const struct rrcache_shelf *shelf
    A failure belongs to the name and type of the question. So with RRCACHE_STALE_IF_FAILED, an
    expired CNAME record may be returned as a stale answer only if the shelf holds a recent failure
    of the type of the question; a failure of type CNAME does not count. A failure of the question is
-   not a failure of the names to which the CNAME record leads. So peek for the question with
-   RRCACHE_NO_STALE. If the reply has the kind RRCACHE_FAILED, ask for each name of the chain with
-   RRCACHE_STALE_NOW. If the shelf holds unexpired data of the type that are older than the failure,
-   the peek returns these data instead. In this case, call `rrcache_tell_stored`: it returns the
-   failure too, and the `number` fields of the entries show whether the failure was stored after the
-   data. */
+   not a failure of the names to which the CNAME record leads. So to learn whether stale answers are
+   acceptable for these names, peek for the question with RRCACHE_NO_STALE. If the reply has the
+   kind RRCACHE_FAILED, ask for each name of the chain with RRCACHE_STALE_NOW. If the shelf holds
+   unexpired data of the type that are older than the failure, the peek returns these data instead.
+   In this case, call `rrcache_tell_stored`: it returns the failure too, and the `number` fields of
+   the entries show whether the failure was stored after the data. */
 static inline enum rrcache_status rrcache_ask_alias(struct rrcache_shelf *shelf,
                                                     const struct rrcache_name *name,
                                                     const struct rrcache_question *question,
@@ -2034,14 +2034,15 @@ static inline enum rrcache_status rrcache_tell_stored(const struct rrcache_shelf
     return (enum rrcache_status)rrc_stored(&look, name, question, stored);
 }
 
-/* Removes the keys that are fully expired at a timestamp, as one event, and writes their number to
-   `removed`. The first sweep of a shelf visits all its keys. A later sweep visits only keys that
-   may have expired since the previous sweep. A caller need not sweep, because eviction makes room
-   for new keys. The call ignores `sweep->most`. Needs the write lock.
+/* Removes all keys that are fully expired at the timestamp `sweep->moment`, and writes the number
+   of these keys to `removed`. A sweep is one event. The first sweep of a shelf visits all its keys.
+   A later sweep visits only keys that may have expired since the previous sweep. A caller need not
+   sweep, because eviction makes room for new keys. The call ignores `sweep->most`. Needs the write
+   lock.
 
    An NXDOMAIN hides an older RRset of the name, even after the NXDOMAIN has expired, unless the
    RRset is unexpired and of higher rank. After a sweep has removed the NXDOMAIN, the RRset may
-   answer again: fresh if the RRset is unexpired, and otherwise stale. */
+   answer again: as a fresh answer if the RRset is unexpired, and otherwise as a stale answer. */
 static inline enum rrcache_status
 rrcache_sweep(struct rrcache_shelf *shelf, const struct rrcache_sweep_at *sweep, uint64_t *removed)
 {
@@ -2076,10 +2077,10 @@ static inline enum rrcache_status rrcache_next_expiry(const struct rrcache_shelf
 /* Sweeps in steps, so that a call usually takes little time. Each step is a sweep at the timestamp
    that `rrcache_next_expiry` would then return, and is one event. The call stops when that
    timestamp is later than `moment`, when at least `most` keys have been removed, or after `most`
-   steps. A call may take long in two cases: all keys that fully expire in the same second are
-   removed in one step, and the first sweep of a shelf visits all its keys. Some steps may remove no
-   key. The call writes to `swept` the number of keys that it removed. `swept->is_done` is 1 if no
-   key is left that is fully expired at `moment`, and 0 if such a key may be left.
+   steps. A call may take a long time for two reasons: all keys that fully expire in the same second
+   are removed in one step, and the first sweep of a shelf visits all its keys. Some steps may
+   remove no key. The call writes to `swept` the number of keys that it removed. `swept->is_done` is
+   1 if no key is left that is fully expired at `moment`, and 0 if such a key may be left.
 
    Returns RRCACHE_BAD_RULES if `most` is 0. If `moment` is above 2^40, the call returns
    RRCACHE_MOMENT_TOO_LARGE before the first step. Keys that were removed before an error stay
@@ -2099,9 +2100,9 @@ static inline enum rrcache_status rrcache_sweep_some(struct rrcache_shelf *shelf
 /* Limits the memory of a shelf. The call evicts the least recently used keys until the remaining
    keys use at most `limit` octets (`rrcache_sizes`), until it has removed `most` keys, or until no
    key is left. The call writes to `trimmed` the number of keys that it removed, and the number of
-   octets that the remaining keys use. If this number of octets is still above the limit, call the
-   function again. If a caller trims the shelf after each message, each trim evicts about as many
-   octets as the message added, so no trim takes long. The entries of the remaining keys do not
+   octets that the remaining keys use. If this number of octets is still above the limit, call
+   `rrcache_trim` again. If a caller trims the shelf after each message, each trim frees about as
+   many octets as the message added, so no trim takes long. The entries of the remaining keys do not
    change. Needs the write lock.
 
    In a trim, the eviction of data is one event: an offer of these data with TTL 0, which clears the
@@ -2162,10 +2163,11 @@ static inline enum rrcache_status rrcache_can_take(const struct rrcache_shelf *s
 
 /* Moves the closed chapters of the shelf, the oldest first, into a handle that holds no chapters,
    and writes the number of these chapters to `count`. `count` is 0 while the shelf does not record.
-   Replies do not change. The call allocates one small block of memory. The time that the call takes
-   does not grow with the number of events. Later calls on these chapters do not need the lock of
-   the shelf. Free the chapters with `rrcache_free_chapters`, even if `count` is 0. Returns
-   RRCACHE_HAS_CHAPTERS if the handle already holds chapters. Needs the write lock. */
+   Replies do not change. The call allocates one small block of memory, whose size is fixed. The
+   time that the call takes does not grow with the number of events. Later calls on these chapters
+   do not need the lock of the shelf. Free the chapters with `rrcache_free_chapters`, even if
+   `count` is 0. Returns RRCACHE_HAS_CHAPTERS if the handle already holds chapters. Needs the write
+   lock. */
 static inline enum rrcache_status rrcache_take_chapters(struct rrcache_shelf *shelf,
                                                         struct rrcache_chapters *chapters,
                                                         uint64_t *count)
@@ -2177,16 +2179,16 @@ static inline enum rrcache_status rrcache_take_chapters(struct rrcache_shelf *sh
 }
 
 /* Stops recording, and moves the recorded chapters into a handle that holds no chapters: first the
-   closed chapters that have not been taken yet, and then the open chapter, which the call closes.
-   The call writes the number of these chapters to `count`, which is 0 if the shelf did not record.
-   Replies do not change, and no key is lost. Returns RRCACHE_HAS_CHAPTERS if the handle already
-   holds chapters, and RRCACHE_HISTORY_FULL if the open chapter has the number 2^62. After
-   RRCACHE_HISTORY_FULL or RRCACHE_MEMORY, the shelf still records, and `rrcache_stop_and_drop` can
-   stop the recording. Needs the write lock.
+   closed chapters that have not been taken or dropped, and then the open chapter, which the call
+   closes. The call writes the number of these chapters to `count`, which is 0 if the shelf was not
+   recording. Replies do not change, and no key is lost. Returns RRCACHE_HAS_CHAPTERS if the handle
+   already holds chapters, and RRCACHE_HISTORY_FULL if the open chapter has the number 2^62. After
+   RRCACHE_HISTORY_FULL or RRCACHE_MEMORY, the shelf is still recording, and `rrcache_stop_and_drop`
+   can stop the recording. Needs the write lock.
 
    If this call directly follows the call of `rrcache_record` that started the recording, the handle
    then holds one chapter, which has no events. The lines of this chapter list all entries of the
-   shelf, so a caller can save the contents of the shelf in this way. No call makes a shelf from
+   shelf, so a caller can save the contents of the shelf in this way. No call restores a shelf from
    such a chapter, but a caller can offer the entries to an empty shelf, in the order of their event
    numbers, each with the timestamp, rank and TTL from its line. */
 static inline enum rrcache_status rrcache_stop_recording(struct rrcache_shelf *shelf,
@@ -2199,16 +2201,18 @@ static inline enum rrcache_status rrcache_stop_recording(struct rrcache_shelf *s
     return (enum rrcache_status)rrc_stop_recording(shelf, chapters, count);
 }
 
-/* Writes a line of a chapter to the front of the buffer, starting at the octet `place->from` of the
-   line. If the rest of the line does not fit, the call writes as much of it as fits. All fields of
-   `place` are counted from 0. The call writes to `told` the number of octets of the line, including
-   its LF, and the number of octets that it wrote to the buffer. The latter number is 0 if `from` is
-   at or after the end of the line. The text of a chapter has a first line with the number of the
-   chapter and the rules of the shelf, a line for each key that was cached when the chapter began,
-   and a line for each event. The lines have the same form as in an archive (docs/FORMATS.md).
-   Returns RRCACHE_NO_CHAPTERS if the handle holds no chapters, and RRCACHE_NO_LINE if the handle
-   has no chapter `place->chapter` or the chapter has no line `place->line`. The call allocates
-   memory for the whole line, and frees this memory before it returns. Needs no lock. */
+/* Writes a line of a chapter to the beginning of `buffer`, starting with the octet `place->from` of
+   the line. If the rest of the line does not fit, the call writes only as many octets as fit. All
+   fields of `place` are counted from 0. The call writes to `told->size` the number of octets of the
+   line, including its LF, and to `told->written` the number of octets that it wrote to the buffer.
+   `told->written` is 0 if `place->from` is at or after the end of the line. The first line of a
+   chapter contains the number of the chapter, the number of its first event, and the rules of the
+   shelf except the seed. The first line is followed by a line for each key that was cached when the
+   chapter began, and then by a line for each event. The lines have the same form as in an archive
+   (docs/FORMATS.md). Returns RRCACHE_NO_CHAPTERS if the handle holds no chapters, and
+   RRCACHE_NO_LINE if the handle has no chapter `place->chapter` or the chapter has no line
+   `place->line`. The call allocates memory for the whole line, and frees this memory before it
+   returns. Needs no lock. */
 static inline enum rrcache_status rrcache_chapter_line(struct rrcache_chapters *chapters,
                                                        const struct rrcache_place *place,
                                                        uint8_t *buffer, size_t buffer_size,
@@ -2226,9 +2230,9 @@ static inline enum rrcache_status rrcache_chapter_line(struct rrcache_chapters *
                                                  buffer_size, told);
 }
 
-/* Writes a line of a chapter to `sink`, from octet `place->from` of the line to its LF. All fields
-   of `place` are counted from 0. Each call to the sink receives RRCACHE_PIECE_OCTETS octets of the
-   line, except the last call, which receives the rest. If the sink returns nonzero,
+/* Writes a line of a chapter to `sink`, from the octet `place->from` of the line to its LF. All
+   fields of `place` are counted from 0. Each call to the sink receives RRCACHE_PIECE_OCTETS octets
+   of the line, except the last call, which receives the rest. If the sink returns nonzero,
    `rrcache_write_line` writes nothing more and returns RRCACHE_SINK. The other errors are those of
    `rrcache_chapter_line`. Needs no lock. */
 static inline enum rrcache_status rrcache_write_line(struct rrcache_chapters *chapters,
@@ -2253,11 +2257,12 @@ static inline enum rrcache_status rrcache_write_line(struct rrcache_chapters *ch
     return RRCACHE_DONE;
 }
 
-/* Writes all lines of a chapter to `sink`, each as `rrcache_write_line` does. `chapter` is the
-   position of the chapter in the handle, counted from 0. The text of all chapters of one recording,
-   in the order in which they were taken, is an archive of the history. The sink must not pass
-   `chapters` to a function of the library. Returns RRCACHE_NO_LINE if the handle has no chapter at
-   the position `chapter`. The other errors are those of `rrcache_write_line`. Needs no lock. */
+/* Writes all lines of a chapter to `sink`, each in the same way as `rrcache_write_line`. `chapter`
+   is the position of the chapter in the handle, counted from 0. The text of all chapters of one
+   recording, in the order in which they were taken, is an archive of the history. The sink must not
+   pass `chapters` to a function of the library. Returns RRCACHE_NO_LINE if the handle has no
+   chapter at the position `chapter`. The other errors are those of `rrcache_write_line`. Needs no
+   lock. */
 static inline enum rrcache_status rrcache_write_chapter(struct rrcache_chapters *chapters,
                                                         uint64_t chapter, rrcache_sink sink,
                                                         void *state)
@@ -2285,12 +2290,12 @@ static inline enum rrcache_status rrcache_free_chapters(struct rrcache_chapters 
     return (enum rrcache_status)rrc_free_chapters(chapters);
 }
 
-/* Writes the sizes of a shelf: the number of keys, the number of recorded events in the open
-   chapter, the number of closed chapters, and the number of octets that the keys use. The number of
-   keys includes fully expired keys that have not been swept yet. While the shelf does not record,
-   the numbers of events and chapters are 0. There are three kinds of key: for the RRset or NODATA
-   of a name, a class and a type; for the NXDOMAIN of a name and a class; and for the resolution
-   failure of a name, a class and a type. Needs only the read lock.
+/* Writes to `sizes` the sizes of a shelf: the number of keys, the number of recorded events in the
+   open chapter, the number of closed chapters, and the number of octets that the keys use. The
+   number of keys includes fully expired keys that have not been swept yet. Keys of all three kinds
+   are counted: those for the RRset or NODATA of a name, a class and a type; those for the NXDOMAIN
+   of a name and a class; and those for the resolution failure of a name, a class and a type. While
+   the shelf does not record, the numbers of events and chapters are 0. Needs only the read lock.
 
    The number of octets is approximately the memory that the keys use. A key uses
    RRCACHE_ENTRY_OCTETS, plus the octets for its name. An RRset uses RRCACHE_SHARED_OCTETS, plus the
