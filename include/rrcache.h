@@ -5,33 +5,35 @@
    shelves (shards) of rrcache_shelf.h. The exported functions of the shelves (`rrc_..`) are proved
    to meet their contracts. docs/RULES.md describes the rules that these functions follow. The
    inline functions of the headers and the C code of the cache are tested, not proved. A program
-   with one thread, or with its own locks, can use the shelves directly.
+   with one thread, or with its own locks, can use the shelves directly. The header rrcache_shelf.h
+   also defines the terms of both headers, such as *key* and *entry*.
 
-   SECURITY.md, "A caller's checklist", lists what a resolver itself has to do. The program
-   examples/stub.c is a complete stub resolver that uses a `struct rrcache`. A process may have
-   several caches, for example one for each view. Each cache has its own seed and limits.
+   The section "A caller's checklist" of SECURITY.md lists what a resolver itself has to do. The
+   program examples/stub.c is a complete stub resolver that uses a `struct rrcache`. A process may
+   have several caches, for example one for each view. Each cache has its own seed and limits.
 
    Threads
    - The library starts no threads.
    - Any thread may call any function at any time, with three exceptions. First, `rrcache_close` may
      be called only while no other call on the cache is running, and it must be the last call on the
      cache. Second, no function may be called in a signal handler, or in the child of a process that
-     forked while several threads ran. Third, the callback of `rrcache_stop_recording_all` or
-     `rrcache_dump` must not call any function on the same cache. A call may block on a lock. If a
-     thread is canceled during a call (`pthread_cancel`, with deferred cancellation), the call ends
-     before the thread does. But a thread must not be canceled during a callback. If a process with
-     one thread forks, the parent and the child each have their own copy of the cache. The two
-     copies have the same seed, but neither process sees the data that the other process stores
-     after the fork. Processes cannot share a cache.
-   - The library chooses the shelf of a name by a hash of the name. This hash is keyed with a secret
-     seed. Each shelf has `readers` places (see `struct rrcache_config`). A place is a lock that one
-     thread at a time holds during a look-up. The library assigns threads to these places in turn. A
-     look-up that changes nothing in its shelf takes only one place: the place of its thread or, if
-     that place is taken, another place. Such look-ups do not block each other, even for the same
-     name, if each shelf has at least as many places as there are threads. A call that changes a
-     shelf keeps new look-ups out of the shelf, and waits until the look-ups that are already
-     running in the shelf are finished. A look-up changes its shelf if, for example, it moves an
-     entry in the LRU order (see below). No call holds locks of two shelves at the same time.
+     forked while several threads were running. Third, the callback of `rrcache_stop_recording_all`
+     or `rrcache_dump` must not call any function on the same cache.
+   - A call may block on a lock. If a thread is canceled during a call (`pthread_cancel`, with
+     deferred cancellation), the call completes before the thread ends. However, a thread must not
+     be canceled during a callback.
+   - If a process with one thread forks, the parent and the child each have their own copy of the
+     cache. The two copies have the same seed, but neither process sees the data that the other
+     process stores after the fork. Processes cannot share a cache.
+   - The library chooses the shelf of a name by a hash of the name under a secret seed. Each shelf
+     has `readers` places (see `struct rrcache_config`). A place is a lock that one thread at a time
+     holds during a look-up. The library assigns threads to these places in turn. A look-up that
+     changes nothing in its shelf takes only one place: the place of its thread or, if that place is
+     taken, another place. Such look-ups do not block each other, even for the same name, if each
+     shelf has at least as many places as there are threads. A call that changes a shelf keeps new
+     look-ups out of the shelf, and waits until the look-ups already running in the shelf have
+     finished. A look-up changes its shelf if, for example, it moves an entry in the LRU order (see
+     below). No call holds the locks of two shelves at the same time.
    - If a look-up is repeated with the same timestamp, and the name is in lower case, the library
      may copy the answer from a memo, which is a saved copy of an earlier answer. The library does
      so only if nothing in the shelf of the name has changed since the library gave that earlier
@@ -41,22 +43,23 @@
    - ThreadSanitizer cannot see the locks in the compiled library. To run a program under
      ThreadSanitizer, compile the files of lib/ with ThreadSanitizer too, and link them before the
      shared library. The static library contains the same functions as these files. So if you link
-     the static library instead of the shared library, the linker also needs
-     `-Wl,--allow-multiple-definition`. ThreadSanitizer may still falsely report races in `free`,
-     because it does not see how shelves count the references to data. The line `race_top:free$` in
-     a suppressions file prevents these reports.
-   - Eviction follows the LRU order. But a look-up that finds an entry does not always move this
-     entry to the front of the LRU order, because a move changes the shelf. In a shelf that is at
-     least three quarters full, by octets or by keys, a look-up moves its entry if more than a
-     quarter of the shelf's keys may have been used since the last use of that entry. Apart from
-     this, a look-up moves its entry in only two cases. First, if most of the recent look-ups had to
-     move their entries, the next few look-ups move theirs too. Second, if `exact_recency` is set or
-     histories are being recorded, every look-up moves its entry. docs/RULES.md says which LRU order
-     a caller can rely on.
+     the static library instead of the shared one, also pass `-Wl,--allow-multiple-definition`.
+     ThreadSanitizer may still falsely report races in `free`, because it does not see how shelves
+     count the references to data. The line `race_top:free$` in a suppressions file prevents these
+     reports.
+   - Eviction follows the LRU order. However, a look-up does not always move the entry that it finds
+     to the front of this order, because a move changes the shelf. In a shelf that is at least three
+     quarters full, by octets or by keys, a look-up moves its entry if more than a quarter of the
+     shelf's keys may have been used since the last use of that entry. Otherwise, a look-up moves
+     its entry in only two cases. First, if most of the recent look-ups had to move their entries,
+     the next few look-ups move theirs too. Second, if `exact_recency` is set or histories are being
+     recorded, every look-up moves its entry. docs/RULES.md says which order of eviction a caller
+     can rely on.
 
    Memory
    - An answer is a copy in the caller's buffer. The copy stays valid after the entries that it came
-     from are evicted and after `rrcache_close`, and does not count toward `octets`.
+     from are evicted and after `rrcache_close`, and does not count toward the limit `octets` of
+     `struct rrcache_config`.
    - The keys use at most `octets` octets of memory, as `rrcache_sizes` counts them, except while a
      call stores data, and after an eviction during which malloc failed. Each shelf may use only an
      equal share of `octets`, even if other shelves use less than their share. A call that stores
@@ -64,17 +67,17 @@
      returns. If malloc fails during the eviction, the call still succeeds, and the next call that
      stores, forgets or sweeps entries of that shelf completes the eviction. `octets` covers only
      the keys, and an allocator may use more memory for them than is counted. So plan for two and a
-     half times `octets`, and also for the memory that the next item describes. In total, this is
-     about 2.575 times `octets`, plus 4 octets for each key that `keys` allows. SECURITY.md has the
+     half times `octets`, and also for the memory that the next item describes. The total is about
+     2.575 times `octets`, plus 4 octets for each key that `keys` allows. SECURITY.md reports the
      measurements behind the factor of two and a half, and says what was not measured.
-   - In addition, `rrcache_open` allocates the places, the memos, and a filter of the names that may
-     be aliases. All memos together use at most 1/16 of `octets`, and at most about 460 KiB times
-     `readers`. The filter of aliases uses at most about 1/80 of `octets`, and at most 128 KiB for
-     each shelf. A second filter, of the names that may have an NXDOMAIN or a failure, uses 2 to 4
-     octets for each key that `keys` allows, regardless of `octets`: 8 MiB with the default number
-     of keys. So if `octets` is small, set `keys` too.
+   - In addition, `rrcache_open` allocates the places, the memos, and two filters: one of the names
+     that may be aliases, and one of the names that may have an NXDOMAIN or a failure. All memos
+     together use at most 1/16 of `octets`, and at most about 460 KiB times `readers`. The first
+     filter uses at most about 1/80 of `octets`, and at most 128 KiB for each shelf. The second
+     filter uses 2 to 4 octets for each key that `keys` allows, regardless of `octets`: 8 MiB with
+     the default number of keys. So if `octets` is small, set `keys` too.
    - A cache has at most 64 shelves of at most 65,536 keys each, so it has at most 4,194,304 keys.
-     An RRset of one address with a short name uses 320 octets. So a cache holds at most about 1.3
+     An RRset of one address with a short name uses 320 octets, so a cache holds at most about 1.3
      GB of such RRsets, even if `octets` is larger.
    - The configuration of an open cache cannot be changed. The library returns freed memory to
      malloc, and malloc decides whether to return this memory to the operating system.
@@ -83,14 +86,14 @@
      RRset, set `octets` to at least 16 MiB. If `octets` has to be smaller, use fewer shelves.
    - Look-ups allocate memory only while histories are being recorded (`rrcache_record_all`).
      `rrcache_next`, `rrcache_stats`, `rrcache_stats_of` and `rrcache_stats_text` never allocate. A
-     call returns RRCACHE_MEMORY if malloc fails, unless the call can do without the memory, as
-     during an eviction. After RRCACHE_MEMORY, the contents of the cache are unchanged, with three
-     exceptions: `rrcache_store`, `rrcache_sweep_all` and `rrcache_forget` may have done part of
-     their work.
+     call returns RRCACHE_MEMORY if malloc fails, unless the call can do without the memory, as it
+     can during an eviction. After RRCACHE_MEMORY, the contents of the cache are unchanged, with
+     three exceptions: `rrcache_store`, `rrcache_sweep_all` and `rrcache_forget` may have done part
+     of their work.
 
    Timestamps
-   - Timestamps (`moment`) are numbers of seconds, at most 2^40. The timestamp 0 means the current
-     time of CLOCK_BOOTTIME, a clock that cannot be set and keeps running while the machine is
+   - A timestamp (`moment`) is a number of seconds, at most 2^40. The timestamp 0 means the current
+     time of CLOCK_BOOTTIME, a clock that cannot be set and that keeps running while the machine is
      suspended.
    - A program must either pass 0 in every call, or pass timestamps from its own clock in every
      call. If a program passes 0 in some calls and timestamps from its own clock in others, data
@@ -103,17 +106,17 @@
 
    Errors
    - The header rrcache_shelf.h describes the wire form of names, the ownership of memory, and each
-     status. On error, outputs other than answers are unmodified, unless the comment of the function
+     status. On error, outputs other than answers are unmodified, unless the comment on the function
      says otherwise.
    - A function that fills an answer empties the answer first. On error, the answer is empty: its
      `kind` is RRCACHE_MISS, and `end` holds no name. The exception is RRCACHE_SMALL: the answer
      then contains the RRsets that fit, and `kind` and `end` are unspecified. The answer does not
-     say how large a buffer is needed: make the call again with a larger buffer. If the call was
+     report how large a buffer is needed: make the call again with a larger one. If the call was
      `rrcache_store`, the second call stores the response again.
    - Memory that a call reads must not overlap memory that it writes, with two exceptions. First,
      the name of a request or of a query, and the zone of a response, may lie in the buffer of the
      answer. Second, the name of a query and the zone of a response may also lie in `end` of the
-     answer. But if the name of a request lies in `end`, a look-up returns RRCACHE_OVERLAP.
+     answer. However, if the name of a request lies in `end`, a look-up returns RRCACHE_OVERLAP.
    - Every function that returns a status returns RRCACHE_NULL if a required pointer is null.
      RRCACHE_MEMORY means that malloc failed, RRCACHE_HISTORY_FULL that the event numbers of a shelf
      are used up, and RRCACHE_MOMENT_TOO_LARGE that a timestamp is above 2^40. The comments below do
@@ -122,11 +125,11 @@
      anything. In this case, close the cache and open a new one. At 10^9 events a second in one
      shelf, the event numbers last for 146 years.
    - If a field of `struct rrcache_config` is 0, its default applies. If a limit in the `response`
-     argument of `rrcache_store` is 0, the limit of the cache applies. For the functions of
-     rrcache_shelf.h, a limit of 0 or a seed of zeros is an error.
+     argument of `rrcache_store` is 0, the corresponding limit of the cache applies. For the
+     functions of rrcache_shelf.h, a limit of 0 or a seed of zeros is an error.
 
    ABI
-   - The library reads or writes every struct of this header. So each of these structs keeps its
+   - The library reads or writes every struct of this header, so each of these structs keeps its
      size and its fields in all versions with the same soname. */
 #ifndef RRCACHE_H
 #define RRCACHE_H
@@ -144,11 +147,11 @@ extern "C" {
 
 struct rrcache;
 
-/* The configuration of a cache. If all fields are 0, the cache uses good defaults and serves no
-   stale data. */
+/* The configuration of a cache. If all fields are 0, the defaults below apply, and the cache serves
+   no stale data. */
 struct rrcache_config {
-    uint64_t octets;    /* the maximum number of octets of memory that the keys use, divided equally
-                           among the shelves: 65,536 to 2^46, or 0 for 64 MiB */
+    uint64_t octets;    /* the maximum number of octets of memory that the keys may use, divided
+                           equally among the shelves: 65,536 to 2^46, or 0 for 64 MiB */
     uint64_t keys;      /* the maximum number of keys, divided equally among the shelves, with each
                            share rounded up: at most 65,536 for each shelf, or 0 for this maximum */
     uint64_t shelves;   /* the number of shelves: 1 to 64, or 0 for 64 */
@@ -195,7 +198,7 @@ enum { RRCACHE_ANSWER_OCTETS = 65536 };
 /* The answer to a question: a list of RRsets, which `rrcache_next` returns one by one, and a kind.
    An answer has at most RRCACHE_MOST_ALIASES + 1 RRsets, and up to RRCACHE_MOST_ALIASES more if it
    includes DNAME RRsets. If the type of the query is ANY or is not kept, an answer from
-   `rrcache_store` may have more RRsets. The caller sets `buffer` and its size `room`, sets
+   `rrcache_store` may have even more RRsets. The caller sets `buffer` and its size `room`, sets
    `with_dnames` to get DNAME RRsets, and initializes the other fields to 0. */
 struct rrcache_answer {
     uint8_t *buffer;
@@ -210,23 +213,23 @@ struct rrcache_answer {
                                 not help */
     bool with_dnames;        /* set by the caller. If true, the DNAME RRset from which a CNAME
                                 record was synthesized precedes the CNAME record (RFC 6672 section
-                                3.1). In a look-up, the DNAME RRset has to be cached; in
-                                `rrcache_store`, it has to be in the answer section of the response.
+                                3.1). For a look-up, the DNAME RRset must be cached; for
+                                `rrcache_store`, it must be in the answer section of the response.
                                 For each answer, the library tries at most 16 names as owners of
                                 DNAME RRsets. If the answer is from a look-up, each of these names
                                 counts as one more look-up in `struct rrcache_stats` */
-    uint64_t retry_from;     /* with RRCACHE_FAILED, the timestamp from which to try again;
+    uint64_t retry_from;     /* if `kind` is RRCACHE_FAILED, the timestamp from which to try again;
                                 otherwise 0. If an answer is stale, a second look-up with
                                 RRCACHE_NO_STALE returns this timestamp, or 0 if no failure is
                                 recent */
-    struct rrcache_name end; /* the name at the end of the CNAME chain. If a look-up returns
-                                RRCACHE_MISS, it is the name to query for. For a delegation, it is
-                                the owner of the NS RRset */
+    struct rrcache_name end; /* the name at the end of the CNAME chain. If `kind` is RRCACHE_MISS
+                                after a look-up, `end` is the name to query for. For a delegation,
+                                `end` is the owner of the NS RRset */
 };
 
-/* An RRset of an answer, in the form that `rrcache_compose_response` requires. In a negative
-   answer, the last RRset is the SOA record, which belongs in the authority section. Initialize this
-   struct to zeros. */
+/* An RRset of an answer. The field `set` has the form that `rrcache_compose_response` requires. In
+   a negative answer, the last RRset is the SOA record, which belongs in the authority section.
+   Initialize this struct to zeros. */
 struct rrcache_rrset {
     struct rrcache_parsed_set set; /* the RRset. `ttl` is the TTL for the client: the remaining TTL,
                                       or 30 if the RRset is stale. Each RRset of a CNAME chain has
@@ -277,8 +280,8 @@ struct rrcache_stats {
 /* A buffer of this size is large enough for the text of any `struct rrcache_stats`. */
 enum { RRCACHE_STATS_OCTETS = 384 };
 
-/* The callback to which `rrcache_stop_recording_all` and `rrcache_dump` write. Each call of the
-   callback passes `size` octets of the text of one shelf; `shelf` is the number of that shelf,
+/* The callback to which `rrcache_stop_recording_all` and `rrcache_dump` write. In each call, the
+   callback receives `size` octets of the text of one shelf; `shelf` is the number of that shelf,
    counted from 0. The callback must process all these octets, and must return 0 to continue or
    nonzero to stop. `state` is the pointer that the caller passed together with the callback. During
    the callback, the library holds no lock of a shelf, but it holds the lock that guards the start
@@ -304,9 +307,9 @@ RRCACHE_API void rrcache_close(struct rrcache *cache);
    begins at the name of the question, and the reply for the name at the end of the chain: an RRset
    of the question's type, a negative answer (RRCACHE_NODATA or RRCACHE_NXDOMAIN), or a miss
    (RRCACHE_MISS or RRCACHE_FAILED). Even if the reply is a miss, the answer contains the CNAME
-   RRsets. At each name, the rule of `rrcache_ask_alias` chooses between a CNAME record and data of
-   the type (RFC 1034 section 4.3.2). For a question of type CNAME, ANY, NSEC or RRSIG, no CNAME
-   record is followed.
+   RRsets. At each name, the rule described at `rrcache_ask_alias` chooses between a CNAME record
+   and data of the type (RFC 1034 section 4.3.2). For a question of type CNAME, ANY, NSEC or RRSIG,
+   no CNAME record is followed.
 
    With the mode RRCACHE_STALE_IF_FAILED, stale data are acceptable for a name of the chain if
    resolution of the type has failed recently for that name (RFC 8767 section 5). If resolution of
@@ -331,16 +334,16 @@ RRCACHE_API enum rrcache_status rrcache_lookup(struct rrcache *cache,
                                                const struct rrcache_request *request,
                                                struct rrcache_answer *answer);
 
-/* Looks up the deepest unexpired NS RRset at or above a name. A resolver can start with the servers
-   that this RRset names (RFC 1034 section 5.3.3, RFC 9156 section 2). The answer contains this
-   RRset, and `end` is its owner. If there is no such RRset, `kind` is RRCACHE_MISS. An NS RRset
-   does not count while an NXDOMAIN of its owner is the governing entry (docs/RULES.md, "What an ask
-   answers"). The fields `rtype`, `mode` and `takes_glue` of the request are ignored. The DS RRset
-   of a zone is in the parent zone (RFC 4035 section 2.4). So for a question of type DS, pass the
-   name without its first label. If the servers of an RRset that was found cannot be used, for
-   example because their addresses are no longer cached, pass a copy of `end` without its first
-   label to find the delegation above. An expired NS RRset is found only by `rrcache_lookup` with
-   type NS and a mode that allows stale data, and with `takes_glue` if the RRset came from a
+/* Looks up the deepest unexpired NS RRset at or above a name. A resolver can start resolution at
+   the servers that this RRset names (RFC 1034 section 5.3.3, RFC 9156 section 2). The answer
+   contains this RRset, and `end` is its owner. If there is no such RRset, `kind` is RRCACHE_MISS.
+   An NS RRset is skipped while an NXDOMAIN of its owner is the governing entry (docs/RULES.md,
+   "What an ask answers"). The fields `rtype`, `mode` and `takes_glue` of the request are ignored.
+   The DS RRset of a zone is in the parent zone (RFC 4035 section 2.4), so for a question of type
+   DS, pass the name without its first label. If the servers that the NS RRset names cannot be used,
+   for example because their addresses are no longer cached, pass a copy of `end` without its first
+   label to find the next delegation above. An expired NS RRset is found only by `rrcache_lookup`
+   with type NS and a mode that allows stale data, and with `takes_glue` if the RRset came from a
    referral. The errors are those of `rrcache_lookup`, except RRCACHE_BAD_CHOICE. */
 RRCACHE_API enum rrcache_status rrcache_lookup_delegation(struct rrcache *cache,
                                                           const struct rrcache_request *request,
@@ -354,33 +357,32 @@ RRCACHE_API bool rrcache_next(const struct rrcache_answer *answer, struct rrcach
 /* Reads the response to a query as `rrcache_read_response` does, and stores the data that are
    relevant to the query: RRsets, a negative answer or a failure. Each of these is stored in the
    shelf of its name. An RRset or a negative answer that would use more memory than one shelf may
-   use is left out. If a limit of `response` is 0, the limit of the cache applies.
+   use is left out. If a limit of `response` is 0, the corresponding limit of the cache applies.
 
    Returns RRCACHE_OTHER_QUERY if the octets do not answer the query: the caller then has to drop
    them and keep waiting (RFC 5452 section 9.1). RRCACHE_NO_QUESTION means that the server has
-   failed. RRCACHE_BAD_MESSAGE means the same, unless TC is set. A call that returns one of these
-   three errors stores nothing. A response with an RCODE other than NOERROR and NXDOMAIN, such as
-   SERVFAIL, is stored as a failure of its question, unless the type of the question is not kept. So
-   pass such a response only when no other server is left to query. The RCODE is in the low four
-   bits of the fourth octet of the response. The call stores nothing from a truncated response (TC
-   set): send the query again over TCP. If a truncated response ends inside a record, the call
-   returns RRCACHE_BAD_MESSAGE. So if TC (the bit 0x02 of the third octet) is set,
-   RRCACHE_BAD_MESSAGE does not mean that the server has failed.
+   failed. RRCACHE_BAD_MESSAGE means the same, unless TC (the bit 0x02 of the third octet) is set. A
+   call that returns one of these three errors stores nothing. A response with an RCODE other than
+   NOERROR and NXDOMAIN, such as SERVFAIL, is stored as a failure of its question, unless the type
+   of the question is not kept. So pass such a response only when no other server is left to query.
+   The RCODE is in the low four bits of the fourth octet of the response. The call stores nothing
+   from a truncated response (TC set), and returns RRCACHE_BAD_MESSAGE if such a response ends
+   inside a record. After any truncated response, send the query again over TCP.
 
    To read a response without storing it, call `rrcache_read_response` with a `struct rrcache_parts`
    that has one part and any seed other than zeros, and with limits that are not 0. That call
    compares the response with the query as `rrcache_store` does. Then `rrcache_tell_response`
    returns the kind and RCODE, and `rrcache_tell_offer` returns each relevant RRset, even one with
-   TTL 0. In this way, a resolver that can query several servers can see that one of them has
-   failed, without storing a failure.
+   TTL 0. In this way, a resolver with several servers to query can detect the failure of one of
+   them without storing a failure.
 
    The RRsets of a referral are stored, but are not in `answer`. `name` of `report` is the zone of
    the referral, `rrcache_lookup_delegation` returns the NS RRset, and look-ups with `takes_glue`
    return the addresses. NS RRsets and addresses with TTL 0 are not stored, so look-ups do not find
    them. To get them, read the referral without storing it, as described above. An NS RRset with
    unequal TTLs is left out, unless `lowest_ttl` is set. The NS RRset of a referral has the lowest
-   rank. If somebody asked for the zone before it was delegated, the cache may hold an NXDOMAIN for
-   the name of the zone, or a NODATA for this name and type NS. As long as that negative answer is
+   rank. If the name of the zone was looked up before the zone was delegated, the cache may hold an
+   NXDOMAIN for that name, or a NODATA for that name and type NS. As long as that negative answer is
    unexpired, `rrcache_lookup_delegation` finds only the NS RRset of a zone above the zone of the
    referral, or none. If `rrcache_lookup_delegation` finds no NS RRset below the zone whose server
    was queried, call `rrcache_forget` with type NS for the zone of the referral, and store the
@@ -391,18 +393,18 @@ RRCACHE_API bool rrcache_next(const struct rrcache_answer *answer, struct rrcach
    of lower rank than the cached data. So a waiting client gets the data that the server sent. If AA
    is clear and `lowest_ttl` is not set, an RRset with unequal TTLs is neither stored nor returned
    in `answer`. If that RRset contains the data of the query's type, or a CNAME record that leads to
-   these data, `kind` of `answer` is then RRCACHE_MISS. For a query of type ANY, `answer` contains
-   all RRsets that the answer section has for the name, except those that are left out because their
-   TTLs are unequal. A look-up of type ANY, however, never finds these RRsets, because each RRset is
-   stored under its own type. If the response is stored as a failure, `kind` of `answer` is
-   RRCACHE_FAILED. To fill `answer`, the call follows at most RRCACHE_MOST_ALIASES CNAME records,
-   and returns RRsets of any size. But the call stores only relevant data, for which the limits are
-   lower: fewer CNAME records are followed, and only smaller RRsets are relevant. In `answer`, rdata
-   of types A and AAAA may have any length. Each record of a type that is not kept, such as NAPTR,
-   is returned as a separate RRset. If the query is of such a type, `kind` is RRCACHE_NODATA if an
-   SOA record of the response denies that data of the type exist. If the query is of type NSEC or
-   RRSIG, and the answer section has records of this type for the name of the query, `answer`
-   contains these records. No CNAME record is then followed, even if the kind of the response is
+   these data, `kind` of `answer` is RRCACHE_MISS. For a query of type ANY, `answer` contains all
+   RRsets that the answer section has for the name, except those that are left out because their
+   TTLs are unequal. However, a look-up of type ANY never finds the RRsets that were stored, because
+   each RRset is stored under its own type. If the response is stored as a failure, `kind` of
+   `answer` is RRCACHE_FAILED. To fill `answer`, the call follows at most RRCACHE_MOST_ALIASES CNAME
+   records, and returns RRsets of any size. The limits for stored data are lower: fewer CNAME
+   records are followed, and only smaller RRsets are relevant. In `answer`, rdata of types A and
+   AAAA may have any length. Each record of a type that is not kept, such as NAPTR, is returned as a
+   separate RRset. For a query of such a type, `kind` is RRCACHE_NODATA if an SOA record of the
+   response denies that data of the type exist. If the query is of type NSEC or RRSIG, and the
+   answer section has records of this type for the name of the query, `answer` contains these
+   records. No CNAME record is then followed, even if the kind of the response is
    RRCACHE_RESPONSE_ALIAS. If only `report` contains the result, as for a negative response without
    an SOA record, `kind` of `answer` is RRCACHE_MISS.
 
@@ -436,16 +438,16 @@ RRCACHE_API enum rrcache_status rrcache_store(struct rrcache *cache,
 RRCACHE_API enum rrcache_status rrcache_store_set(struct rrcache *cache,
                                                   const struct rrcache_set *set, uint32_t *outcome);
 
-/* Stores a negative answer, which says that a name does not exist or has no data of a type, under
-   the same rules as `rrcache_offer_negative`, and writes the outcome to `outcome`. Returns
-   RRCACHE_TOO_LARGE if the negative answer might use more memory than one shelf may use for all its
-   keys. The other errors are those of `rrcache_offer_negative`. */
+/* Stores a negative answer under the same rules as `rrcache_offer_negative`, and writes the outcome
+   to `outcome`. A negative answer says that a name does not exist, or that it has no data of a
+   type. Returns RRCACHE_TOO_LARGE if the negative answer might use more memory than one shelf may
+   use for all its keys. The other errors are those of `rrcache_offer_negative`. */
 RRCACHE_API enum rrcache_status rrcache_store_negative(struct rrcache *cache,
                                                        const struct rrcache_negative *negative,
                                                        uint32_t *outcome);
 
 /* Stores a resolution failure of a name and a type (RFC 9520) under the same rules as
-   `rrcache_offer_failure`. If the call succeeds, the failure is stored, so `outcome` is always
+   `rrcache_offer_failure`. If the call succeeds, the failure is stored, and `outcome` is
    RRCACHE_KEPT. The errors are those of `rrcache_offer_failure`. */
 RRCACHE_API enum rrcache_status rrcache_store_failure(struct rrcache *cache,
                                                       const struct rrcache_failure *failure,
@@ -475,8 +477,8 @@ RRCACHE_API enum rrcache_status rrcache_forget(struct rrcache *cache,
    lets threads that wait for these locks go first. There are two exceptions: the call does not
    release the locks while it removes keys that expire in the same second, or while the first sweep
    of a shelf visits all its keys. A caller need not sweep, because eviction makes room. A sweep at
-   the timestamp 2^40 removes each key whose entry has a timestamp below 2^40 - 2^32, so a caller
-   with a clock such as CLOCK_BOOTTIME can empty the cache in this way, if `most` is large enough.
+   the timestamp 2^40 removes each key whose entry has a timestamp below 2^40 - 2^32. So if `most`
+   is large enough, a caller with a clock such as CLOCK_BOOTTIME can empty the cache in this way.
    Later calls may pass smaller timestamps.
 
    Returns RRCACHE_BAD_RULES if `most` is 0. May also return RRCACHE_MOMENT_TOO_LARGE,
@@ -513,12 +515,12 @@ RRCACHE_API enum rrcache_status rrcache_stats_of(struct rrcache *cache, uint64_t
 RRCACHE_API enum rrcache_status rrcache_stats_text(const struct rrcache_stats *stats, char *text,
                                                    size_t size);
 
-/* Starts to record the history of each shelf: a list of events, each of which records one call and
-   its result. While histories are being recorded, each look-up is an event, changes its shelf, and
-   moves its entry to the front of the LRU order. Events use at least 96 octets each and stay in
-   memory until recording stops. `octets` does not limit this memory. If histories are already being
-   recorded, the call does nothing. May return RRCACHE_HISTORY_FULL or RRCACHE_MEMORY. On error,
-   nothing is recorded. */
+/* Starts to record the history of each shelf: a list of events, each of which records one ask,
+   offer or sweep and its result. While histories are being recorded, each look-up is an event,
+   changes its shelf, and moves its entry to the front of the LRU order. Events use at least 96
+   octets each and stay in memory until recording stops. `octets` does not limit this memory. If
+   histories are already being recorded, the call does nothing. May return RRCACHE_HISTORY_FULL or
+   RRCACHE_MEMORY. On error, nothing is recorded. */
 RRCACHE_API enum rrcache_status rrcache_record_all(struct rrcache *cache);
 
 /* Stops recording, and writes the history of each shelf as text (an archive) to `sink`, one shelf
@@ -526,16 +528,16 @@ RRCACHE_API enum rrcache_status rrcache_record_all(struct rrcache *cache);
    sink processes the archives of earlier shelves, new events of later shelves use more and more
    memory. If nothing is being recorded, the call writes nothing. Returns RRCACHE_SINK if the sink
    returns nonzero. May also return RRCACHE_HISTORY_FULL or RRCACHE_MEMORY. After any of these
-   errors, recording has stopped, and the histories that were not written are dropped. */
+   errors, recording has stopped, and the histories that were not written have been dropped. */
 RRCACHE_API enum rrcache_status rrcache_stop_recording_all(struct rrcache *cache,
                                                            rrcache_shelf_sink sink, void *state);
 
-/* Writes the contents of each shelf to `sink`, one shelf after another, in the form in which a
+/* Writes the contents of each shelf to `sink`, one shelf after another, in the format with which a
    chapter (segment) of an archive begins (docs/FORMATS.md). The text of a shelf shows its contents
    at one point in time, because other calls on the shelf wait while `rrcache_dump` lists the keys
    of the shelf. The call allocates memory for the keys of one shelf at a time. No call reads this
-   text back into a cache. But a caller can store each entry in a new cache, in the order of the
-   event numbers, with the rank, TTL and timestamp from the entry's line. After a restart of the
+   text back into a cache. However, a caller can store each entry in a new cache, in the order of
+   the event numbers, with the rank, TTL and timestamp from the entry's line. After a restart of the
    machine, CLOCK_BOOTTIME begins at zero again, so the caller must first convert the timestamps
    (docs/RULES.md, "Listing and saving keys"). docs/CAPTURES.md, "A wrong answer", says what a dump
    shows about an answer. Returns RRCACHE_HAS_CHAPTERS while histories are being recorded, and

@@ -18,11 +18,13 @@
    name and a class, and is for the NXDOMAIN of the name. The third consists of a name, a class and
    a type, and is for the resolution failure of the type. An *entry* is the RRset, negative answer
    or failure that a key holds. To *offer* data is to pass them to a shelf, which decides whether to
-   store them (`enum rrcache_outcome`). An *ask* looks up an answer, and moves the entry that gives
-   the answer to the front of the LRU order. A *peek* looks up an answer but changes nothing. A
-   *part* is the set of all names that belong to one shelf. A part and its shelf have the same
-   number, counted from 0. A type or a class is *kept* if the library stores its data; the library
-   skips data of all other types and classes.
+   store them (`enum rrcache_outcome`). An *ask* looks up an answer, and moves the entry that it
+   finds to the front of the LRU order. A *peek* looks up an answer but changes nothing. A *part* is
+   the set of all names that belong to one shelf. A part and its shelf have the same number, counted
+   from 0. A type or a class is *kept* if the library stores its data; the library skips data of all
+   other types and classes. A name, or the data of a name, is *in bailiwick* if the name is at or
+   below the zone whose servers were queried. The section "History and chapters" below defines
+   *events* and *chapters*.
 
    docs/RULES.md describes the rules of the cache. Some names in this header differ from the terms
    in that document: a `moment` is a timestamp, `trust` is a rank, `left` is a remaining TTL, and
@@ -99,8 +101,8 @@
    - If `rrcache_take_chapters` fails, the chapters stay in the shelf. If `rrcache_stop_recording`
      fails, the shelf continues to record.
    - If a call fails, its outputs are unmodified, with two exceptions. A call that returns
-     RRCACHE_SMALL still writes to those of the outputs `told`, `name` and `size` that it has. A
-     call that has `counts` or `swept` as an output writes to this output, unless the error is
+     RRCACHE_SMALL still writes to its outputs `told`, `name` and `size`, if it has them. A call
+     that has `counts` or `swept` as an output writes to this output, unless the error is
      RRCACHE_NULL, RRCACHE_OVERLAP, RRCACHE_NO_SHELF or RRCACHE_NO_OFFERS.
 
    A message about names in several shelves
@@ -109,13 +111,13 @@
      A resolver with several shelves reads the message once, with `rrcache_read_response` and
      without a lock. This call reports which shelves the message concerns. For each of these
      shelves, the resolver takes the lock of the shelf and calls `rrcache_offer_read` with the
-     number of the shelf, counted from 0. Each call offers only the data of names in one shelf, but
+     number of the shelf. Each of these calls offers only the data of names in one shelf, but
      together the calls offer everything that `rrcache_read_response` read. The data of each name
      are then in the shelf that `rrcache_make_name` determines for this name with the same
      `struct rrcache_parts`. No event is added to the history of a shelf that the message does not
      concern.
    - `rrcache_offer_part_unchecked` reads a message, and offers the data of the names in one shelf
-     to that shelf. For several shelves, the caller needs one call for each shelf, and each call
+     to that shelf. For several shelves, the caller must make one call for each shelf, and each call
      reads the whole message under the lock of its shelf. So use this function only to offer data to
      a single shelf.
    - To follow a CNAME chain from shelf to shelf, call `rrcache_ask_alias` for each name of the
@@ -125,7 +127,7 @@
      bailiwick. Use this function only if the cache has a single shelf.
 
    What is stored
-   - `rrcache_read_response` reads from a message only the data that are relevant to the resolver's
+   - `rrcache_read_response` extracts only the data of a message that are relevant to the resolver's
      query. The call rejects a message whose identifier or question differs from that of the query.
      Use this function for all messages from servers. The caller must check that a message comes
      from the address and port to which the query was sent, and that it arrives at the address and
@@ -133,10 +135,9 @@
    - A resolver that parses responses itself passes the parsed RRsets, with their sections, to
      `rrcache_compose_response`. This function writes the RRsets as a message, which the resolver
      then passes to `rrcache_read_response` like any other message.
-   - A function whose name ends in `_unchecked` reads from a message all data that are in bailiwick:
-     data of names at or below the zone whose servers were queried. Such a function does not compare
-     the message with a query. The caller must check the addresses and ports, the identifier and the
-     question of the message before it calls such a function.
+   - A function whose name ends in `_unchecked` extracts all data of a message that are in
+     bailiwick, and does not compare the message with a query. Before calling such a function, the
+     caller must check the addresses and ports, the identifier and the question of the message.
    - A message is truncated if TC (the bit 0x02 of the third octet) is set. Nothing from a truncated
      message is offered (RFC 2181 section 9). If such a message can be read, the call that reads it
      returns RRCACHE_DONE, all fields of `counts` are 0, no event is written, and
@@ -149,12 +150,12 @@
    - Nothing from a message is offered if its opcode is not QUERY, if the class of its question is
      not kept, or if the name of its question is out of bailiwick.
    - The kept classes are IN, CH and HS (RFC 1035 section 3.2.4). docs/RULES.md lists the kept
-     types. Each class of a name has its own keys. A record of a message is ignored unless it has
-     the class of the question. Data of type A in class CH are not kept, because the rdata of this
-     type in this class begin with a name. It is an error to ask for a class that is not kept, or
-     for type 0. A question for any other type that is not kept is allowed: the reply is a miss, or
-     RRCACHE_NXDOMAIN if an unexpired NXDOMAIN of the name is cached. For type ANY, such an NXDOMAIN
-     gives the reply even if unexpired RRsets of higher rank are cached for the name.
+     types. Each class of a name has its own keys. A record of a message is ignored if its class
+     differs from that of the question. Data of type A in class CH are not kept, because the rdata
+     of this type in this class begin with a name. It is an error to ask for a class that is not
+     kept, or for type 0. A question for any other type that is not kept is allowed: the reply is a
+     miss, or RRCACHE_NXDOMAIN if an unexpired NXDOMAIN of the name is cached. For type ANY, such an
+     NXDOMAIN determines the reply even if unexpired RRsets of higher rank are cached for the name.
    - Even if a message that answers its question has just been offered, the next ask for this
      question may be a miss. Apart from evictions, there are six possible causes: the answer is at
      the end of a CNAME chain, or the chain is too long; the TTL is 0; the type is not kept; the
@@ -163,18 +164,17 @@
      RRset is not relevant. In all these cases, `rrcache_tell_response` still returns the kind of
      the response, and `rrcache_tell_offer` returns each offer, including an RRset with TTL 0. The
      caller can answer the waiting client from the output of these calls. The caller has to parse
-     the message only if it needs data that are not offered, such as data of a type that is not
-     kept.
+     the message only for data that are not offered, such as data of a type that is not kept.
    - If a message answers its question, but nothing from it is stored for the question, the message
      does not end a failure that is cached for the question. Until the failure expires, a miss still
      has the kind RRCACHE_FAILED. To end the failure earlier, call `rrcache_offer_failure` with
      `ttl` 0.
-   - A message from which nothing is stored does not change a cached RRset, unless an offer of the
-     message has TTL 0 and clears the RRset. The unchanged RRset may still be returned, even as a
-     stale answer. But under RFC 8767 section 4, an authoritative response (AA set) with RCODE
+   - A message from which nothing is stored changes a cached RRset only if an offer of the message
+     has TTL 0 and clears the RRset. Otherwise, the RRset may still be returned, even as a stale
+     answer. However, under RFC 8767 section 4, an authoritative response (AA set) with RCODE
      NOERROR or NXDOMAIN counts as a refresh, and the old RRset should no longer be returned. So if
-     nothing from such a response is stored that governs the reply to its question (docs/RULES.md,
-     "What is not stored"), the resolver should call `rrcache_offer_set` with `ttl` 0 and
+     nothing that governs the reply to the question (docs/RULES.md, "What is not stored") is stored
+     from such a response, the resolver should call `rrcache_offer_set` with `ttl` 0 and
      RRCACHE_AUTHORITATIVE_ANSWER to clear the RRset.
    - If the RCODE of a response is neither NOERROR nor NXDOMAIN, and the type of its question is
      kept, a failure of the question is offered, even if the RCODE is FORMERR, NOTIMP or REFUSED. If
@@ -185,31 +185,31 @@
      of earlier offers.
 
    Timestamps
-   - Timestamps (`moment`) are numbers of seconds, at most 2^40. The caller supplies them, because
-     the functions of this header read no clock. The timestamp of a call may be lower than that of a
-     previous call.
+   - A timestamp (`moment`) is a number of seconds, at most 2^40. The caller supplies timestamps,
+     because the functions of this header read no clock. The timestamp of a call may be lower than
+     that of a previous call.
    - In a call, the age of an entry is the timestamp of the call minus the timestamp of the entry.
      If the timestamp of the call is lower than that of the entry, the age is 0, and `left` is the
      whole TTL of the entry. The field `age` of `struct rrcache_entry` is not this age, but a number
      of uses.
-   - If the caller's clock is set back by some seconds, all cached data expire that many seconds
-     later. Data that had expired, but have not yet been replaced, cleared, evicted or swept, may
-     answer again, and may prevent data of lower rank from being stored. If the clock is set
-     forward, data expire early, and a sweep then removes entries that are fully expired according
-     to that clock. Use a clock that cannot be set, and that keeps running while the machine is
-     suspended. On Linux, CLOCK_BOOTTIME is such a clock, but CLOCK_MONOTONIC stops during
-     suspension.
-   - The order of the calls, not the order of their timestamps, decides which of two events is
-     later.
    - An entry has expired when its age is at least its TTL. An entry is *fully expired* when it can
      no longer answer: a negative answer or a failure as soon as it has expired, and an RRset
      `max_stale` seconds after it has expired.
+   - If the caller's clock is set back by a number of seconds, all cached data expire that many
+     seconds later. Data that had expired, but have not yet been replaced, cleared, evicted or
+     swept, may answer again, and may prevent data of lower rank from being stored. If the clock is
+     set forward, data expire early, and a sweep then removes entries that are fully expired
+     according to that clock. Use a clock that cannot be set, and that keeps running while the
+     machine is suspended. On Linux, CLOCK_BOOTTIME is such a clock, but CLOCK_MONOTONIC stops
+     during suspension.
+   - The order of the calls, not the order of their timestamps, decides which of two events is
+     later.
 
    History and chapters
    - The history of a shelf is a log of events. Each ask, sweep or offer that succeeds is one event,
-     and an outranked offer is an event too. A message causes one event for each offer that is made
-     from it. A trim causes one or two events for each key that it evicts, and one more if it begins
-     with a sweep.
+     and so is an outranked offer. A message causes one event for each offer that is made from it. A
+     trim causes one or two events for each key that it evicts, and one more if it begins with a
+     sweep.
    - A new shelf does not record its history. While a shelf does not record, its events are numbered
      but use no memory, no chapter becomes full, and there are no chapters to drop. `rrcache_record`
      starts recording: from then on, the shelf keeps events in memory. `rrcache_stop_recording`
@@ -221,7 +221,7 @@
    - A chapter is a segment of the history. The newest chapter is open, which means that new events
      are added to it. If a call has to write an event and the open chapter is full, the call first
      closes that chapter and opens the next one, under the lock of the shelf. A call that offers a
-     message may close a chapter before each of its offers. No reply depends on where chapters end.
+     message may close a chapter before each offer. No reply depends on where chapters end.
    - The time to close a chapter grows with the number of keys that the shelf holds, and with the
      number of keys that it held when the chapter began. The call that closes the chapter writes 16
      octets for each key, and copies an entry of 56 octets for each key that has been used since the
@@ -248,9 +248,9 @@
      not record. Chapter numbers are used up if the open chapter is full and has the number 2^62.
      Once event numbers or chapter numbers are used up, each call that has to write an event returns
      RRCACHE_HISTORY_FULL, even after chapters have been dropped. However, `rrcache_peek` still
-     returns replies. After RRCACHE_HISTORY_FULL, the resolver frees the shelf and makes a new,
-     empty one; with `struct rrcache`, the resolver closes the cache and opens a new one. At 10^9
-     events a second, event numbers are used up after 146 years.
+     returns replies. After RRCACHE_HISTORY_FULL, the resolver has to free the shelf and make a new,
+     empty one; with `struct rrcache`, the resolver has to close the cache and open a new one. At
+     10^9 events a second, event numbers are used up after 146 years.
 
    Which error is returned
    - If several errors apply, a function of this header returns the first one in this list:
@@ -262,7 +262,7 @@
      RRCACHE_HISTORY_FULL; RRCACHE_MOMENT_TOO_LARGE. There is one exception: `rrcache_sweep_some`
      and `rrcache_trim` check for RRCACHE_MOMENT_TOO_LARGE before RRCACHE_HISTORY_FULL.
    - If malloc fails while a call checks for these errors, the call returns RRCACHE_MEMORY, even if
-     an error for which the call has not yet checked also applies.
+     another error, for which the call has not yet checked, also applies.
    - A call that offers a message checks for RRCACHE_HISTORY_FULL and RRCACHE_MOMENT_TOO_LARGE only
      when it makes an offer. If the message has no offers, the call returns RRCACHE_DONE, regardless
      of the timestamp and even if event numbers or chapter numbers are used up.
@@ -383,8 +383,8 @@ enum rrcache_status {
                                      (returned only by functions of rrcache.h) */
 };
 
-/* The kind of a reply or of a stored entry. The kind of an entry is 1, 3, 4 or 6, or 0 if nothing
-   is stored. */
+/* The kind of a reply or of a stored entry. The kind of an entry is RRCACHE_FRESH, RRCACHE_NODATA,
+   RRCACHE_NXDOMAIN or RRCACHE_FAILED, or 0 if nothing is stored. */
 enum rrcache_kind {
     RRCACHE_FRESH = 1,    /* an unexpired RRset; as the kind of an entry, any RRset, even if it has
                              expired */
@@ -411,8 +411,9 @@ enum rrcache_purpose { RRCACHE_ANYTHING = 1, RRCACHE_QUESTION = 2 };
    RRCACHE_STALE_NOW: with or without a failure. */
 enum rrcache_mode { RRCACHE_NO_STALE = 1, RRCACHE_STALE_IF_FAILED = 2, RRCACHE_STALE_NOW = 3 };
 
-/* The rank of data (RFC 2181 section 5.4.1), from low to high. A negative answer about the name of
-   the question itself has rank 4 if AA is set. Any other negative answer has rank 2. */
+/* The rank of data (RFC 2181 section 5.4.1), from low to high. A negative answer from a response
+   has rank 4 if AA is set and it is about the name of the question itself. All other negative
+   answers from responses have rank 2. */
 enum rrcache_trust {
     RRCACHE_ADDITIONAL = 1,               /* data of the additional section, or of the authority
                                              section of a non-authoritative response */
@@ -457,22 +458,22 @@ enum rrcache_response_kind {
                                       section 4.3.2) */
     RRCACHE_RESPONSE_ALIAS = 6,    /* a CNAME chain leads to a name that is out of bailiwick, or to
                                       a name for which the response neither has data nor denies that
-                                      there are data: look up the name, and send a query for it
-                                      if that is a miss */
+                                      there are data: look up that name, and send a query for it if
+                                      the look-up misses */
     RRCACHE_RESPONSE_FAILURE = 7,  /* the RCODE is neither NOERROR nor NXDOMAIN */
     RRCACHE_RESPONSE_UNUSABLE = 8  /* none of the kinds above. For example, TC is set, the opcode is
-                                      not QUERY, the class of the question is not kept, the name of
-                                      the question is out of bailiwick, the CNAME chain is a loop or
-                                      has more than 16 records, or the RCODE is NXDOMAIN although
-                                      the answer section has a record of the name (but none of the
-                                      type). Another example is a response that has no data, does
-                                      not deny that there are data, and is not a referral. A server
-                                      that does not serve the zone may send such a response. A
-                                      response with AA set is not a referral, even if it has NS
-                                      records whose owner is below the zone. Data of a type that is
-                                      not kept are skipped. So for a question of any such type other
-                                      than ANY, a NOERROR response has this kind unless it is a
-                                      referral or an alias */
+                                      not QUERY, the class of the question is not kept, or the name
+                                      of the question is out of bailiwick. A response also has this
+                                      kind if the CNAME chain is a loop or has more than 16 records,
+                                      or if the RCODE is NXDOMAIN although the answer section has a
+                                      record of the name (but none of the type). Another example is
+                                      a response that has no data, does not deny that there are
+                                      data, and is not a referral. A server that does not serve the
+                                      zone may send such a response. A response with AA set is not a
+                                      referral, even if it has NS records whose owner is below the
+                                      zone. Data of a type that is not kept are skipped. So for a
+                                      question of any such type other than ANY, a NOERROR response
+                                      has this kind unless it is a referral or an alias */
 };
 
 /* The reason why octets cannot be read as a response (`rrcache_fault`). */
@@ -485,8 +486,8 @@ enum rrcache_message_fault {
     RRCACHE_LONG_NAME = 4,        /* a name has more than 255 octets */
     RRCACHE_LAYOUT = 5,           /* rdata do not match the layout of their type */
     RRCACHE_NO_RESPONSE = 6,      /* QR is clear, so the message is a query */
-    RRCACHE_NOT_ONE_QUESTION = 7, /* there is not exactly one question */
-    RRCACHE_LONG_MESSAGE = 8      /* there are more than 65,535 octets */
+    RRCACHE_NOT_ONE_QUESTION = 7, /* the message does not have exactly one question */
+    RRCACHE_LONG_MESSAGE = 8      /* the message has more than 65,535 octets */
 };
 
 /* A handle for a shelf. Initialize the handle to zeros; `rrcache_make` makes its shelf. */
@@ -510,7 +511,7 @@ struct rrcache_chapters {
     bool is_live;
 };
 
-/* A name in the form that look-ups in shelves take: folded to lower case, and hashed. Initialize
+/* A name in the form that look-ups in shelves require: folded to lower case, and hashed. Initialize
    the struct to zeros; `rrcache_make_name` fills it. `part` is the number of the name's shelf,
    counted from 0. `hash` is the 64-bit SipHash-1-3 of the folded name under `seed`, and the caller
    may use this hash in its own tables. The caller may copy the struct. The struct and its copies
@@ -563,10 +564,11 @@ struct rrcache_question {
 struct rrcache_entry {
     uint32_t kind;   /* enum rrcache_kind, or 0 if nothing is stored */
     uint32_t trust;  /* enum rrcache_trust; 0 for a failure */
-    uint32_t ttl;    /* the TTL that was stored: for data from a message, it is at most the cap; for
-                        other data, it is the TTL that was offered. To prefetch, a resolver renews
-                        an entry if a client asks for it shortly before `ttl` seconds have passed
-                        since `moment` */
+    uint32_t ttl;    /* the TTL that was stored. For an RRset or a negative answer from a message,
+                        it is at most `cap` of `struct rrcache_limits`; for a failure from a
+                        message, it is `recheck`; for other data, it is the TTL that was offered. A
+                        resolver that prefetches renews an entry if a client asks for it shortly
+                        before `ttl` seconds have passed since `moment` */
     uint64_t moment; /* the timestamp of the offer that was stored */
     uint64_t number; /* the number of the event that stored the entry; no other entry of the shelf
                         has this number */
@@ -639,8 +641,9 @@ struct rrcache_limits {
         604800, 10800, 30                                                                          \
     }
 
-/* The timestamp at which to sweep. `rrcache_sweep` ignores `most`. `rrcache_sweep_some` makes at
-   most `most` sweeps, and makes no further sweep once it has removed at least `most` keys. */
+/* The timestamp at which to sweep, and a limit. `rrcache_sweep_some` makes at most `most` sweeps,
+   and makes no further sweep once it has removed at least `most` keys. `rrcache_sweep` ignores
+   `most`. */
 struct rrcache_sweep_at {
     uint64_t moment;
     uint64_t line;
@@ -711,8 +714,8 @@ struct rrcache_line {
    ABI of the library. These structs keep their size and their fields in all versions with the same
    soname. A later version of this header may add fields to `struct rrcache_parsed_response`,
    because only inline functions read this struct. Exported functions of rrcache.h read or write the
-   other structs below. The inline functions of this header pass only the fields of these structs to
-   the library, never the structs themselves. */
+   other structs below. The inline functions of this header pass only the fields of the structs
+   below to the library, never the structs themselves. */
 
 /* The query that a response has to answer. */
 struct rrcache_query {
@@ -763,7 +766,7 @@ struct rrcache_parsed_set {
 /* A response that a resolver parsed itself: the RCODE and flags of its header (RFC 1035 section
    4.1.1), and its RRsets. `ra` affects the kind of the response, but not its offers. */
 struct rrcache_parsed_response {
-    uint8_t rcode; /* 0 to 15: only the lower four bits of the RCODE, even if an OPT record has
+    uint8_t rcode; /* 0 to 15: only the lower four bits of the RCODE, even if an OPT record adds
                       upper bits (RFC 6891) */
     bool aa;
     bool tc;
@@ -825,8 +828,8 @@ typedef int (*rrcache_sink)(void *state, const void *octets, size_t size);
 
 /* The numbers of octets that `rrcache_sizes` adds up. RRCACHE_ENTRY_OCTETS is for a key, including
    its positions in the LRU order, the map of keys and the expiry queue. RRCACHE_VALUE_OCTETS is for
-   a name, the rdata of a record, or a list of several records. RRCACHE_VALUE_OCTETS includes room
-   for RRCACHE_INLINE_OCTETS octets of the name or rdata. Longer names and rdata are stored in a
+   a name, the rdata of a record, or a list of several records, and includes room for
+   RRCACHE_INLINE_OCTETS octets of the name or rdata. Longer names and rdata are stored in a
    separate block of memory: RRCACHE_BLOCK_OCTETS and the size of the name or rdata are then added.
    A list of several records is also stored in a separate block, but only RRCACHE_BLOCK_OCTETS is
    added. RRCACHE_SHARED_OCTETS is for the reference count of a name or of the data of a key, and
