@@ -61,9 +61,9 @@ def main(args):
         args, TITLE,
         ". The rates are millions of calls per second by threads in C (`bench/c/c_threads.c`). "
         f"Each rate is the best of {args.runs} runs of {args.calls:,} calls on 16 shelves with "
-        "16,384 names. In the rows for shelves owned by each thread, each thread has 16 shelves "
-        f"of its own. The last column is the rate of {of_threads(args.threads[-1])} divided by the "
-        f"rate of {of_threads(args.threads[0])}.",
+        f"16,384 names. In the rows \"{SHELVES['own']}\", each thread has 16 shelves of its own. "
+        f"The last column is the rate of {of_threads(args.threads[-1])} divided by the rate of "
+        f"{of_threads(args.threads[0])}.",
         table(["What", "Shelves", *map(of_threads, args.threads),
                f"{args.threads[-1]} to {args.threads[0]}"], rows),
         filled(f"Through Python (`python/rrcache`), one thread makes {by_python:,.0f} asks per "

@@ -27,8 +27,8 @@ OF_CACHES = (
     "The next table is for a `struct rrcache` with the limit `octets`, the default limit on keys, "
     "and glibc's malloc. Threads stored RRsets of one address under four times as many names as "
     "the limit allows, so most keys were evicted. The threads also swept fully expired keys. The "
-    "last three columns are multiples of `octets`: the counted octets of the keys at the end; the "
-    "maximum memory of the process (`VmHWM`), less the memory that the process had before it "
+    "last three columns contain multiples of `octets`: the counted octets of the keys at the end; "
+    "the maximum memory of the process (`VmHWM`), less the memory that the process had before it "
     "opened the cache; and the memory for which [SECURITY](../SECURITY.md#the-shared-cache-in-c) "
     "says to plan.")
 
@@ -91,14 +91,16 @@ def main(args):
         said.append(f"{of['all'][0]:.2f} to {of['all'][1]:.2f} with {way}")
     write_section(
         args, TITLE,
-        f". For each of {len(found['glibc']) - 1} kinds of keys, a shelf got {args.keys:,} keys. "
-        "While the shelf got the second half of these keys, the octets that the allocator had "
-        "handed out since before the shelf was made, as a multiple of the octets that "
-        "`rrcache_sizes` returned, were "
-        f"{' and '.join(said)}. Names had 3 to 255 octets. RRsets had 1 to 200 records of 4 to "
-        "16,000 octets. SOA records of negative answers, with their owners, had 23 to 785 octets. "
-        "Each kind was measured twice: on a shelf that was never swept, and on one that was swept "
-        "after every tenth offer. No key was evicted, and nothing was recorded.",
+        f". For each of {len(found['glibc']) - 1} kinds of keys, {args.keys:,} keys were offered "
+        "to a shelf. While the second half of these keys was offered, the memory of the shelf was "
+        "compared with the octets that `rrcache_sizes` returned. Here, the memory of the shelf is "
+        "the number of octets that the allocator had handed out since before the shelf was made. "
+        "As a multiple of the returned octets, this memory was "
+        f"{' and '.join(said)}. Names had 3 to 255 octets, and RRsets had 1 to 200 records, each "
+        "with 4 to 16,000 octets of rdata. The rdata and the owner of the SOA record of a negative "
+        "answer together had 23 to 785 octets. Each kind was measured twice: on a shelf that was "
+        "never swept, and on one that was swept after every tenth offer. No key was evicted, and "
+        "nothing was recorded.",
         filled(OF_CACHES), caches(args))
 
 

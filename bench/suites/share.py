@@ -103,8 +103,7 @@ def main(args):
     write_section(
         args, TITLE,
         f". Each rate is the median of {args.runs} runs, in millions of calls or lines per "
-        "second of elapsed time. A run was repeated if the host took processors away from the "
-        "machine during the run. In a run of asks or puts, all threads together make "
+        "second of elapsed time. In a run of asks or puts, all threads together make "
         f"{args.calls:,} calls on a shared cache with {NAMES:,} names (`bench cache shared`). In a "
         f"replay, the program `rrcache` reads and replays a trace of {args.lines:,} lines, "
         "collates the results, and writes the report. The last column is the rate of "
@@ -113,6 +112,6 @@ def main(args):
         table(["What", "Parts", *map(of_threads, THREADS), f"{THREADS[-1]} to {THREADS[0]}"], rows),
         filled(
             f"With one thread, an ask that hits takes {lent:.0f} ns on parts without locks, and "
-            f"{shared:.0f} ns on a shared cache (medians of 16 short runs of each, which "
-            "alternated). The difference of the two medians before rounding is "
-            f"{shared - lent:.0f} ns: the time to take the lock and to find the part."))
+            f"{shared:.0f} ns on a shared cache. These numbers are medians of 16 short runs of "
+            "each kind; the runs of the two kinds alternated. Before rounding, the medians differ "
+            f"by {shared - lent:.0f} ns: the time to take the lock and to find the part."))

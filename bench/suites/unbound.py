@@ -42,7 +42,7 @@ ARCHIVES = ["apt-get", "indextargets", "Created-By: Packages", "Codename: bookwo
             " $(REPO_URI) $(RELEASE) $(COMPONENT)"]
 OF_CACHE = filled("The first table is for `struct rrcache` with its own locks. The look-ups of a"
                   " `struct rrcache` follow aliases, but the asks in the tables for shelves do not."
-                  " In the runs for all these tables, no name is an alias.")
+                  " In all these runs, however, no name is an alias.")
 # What valgrind counts of a run, and the caches of the processor that it simulates: their octets,
 # ways and the octets of a line.
 EVENTS = ("I +refs", "D1 +misses", "LLd misses")
@@ -50,37 +50,39 @@ SIMULATED = ("--cache-sim=yes", "--D1=32768,8,64", "--LL=1048576,16,64",
              "--cachegrind-out-file=/dev/null")
 FEW, MANY = 20_000, 120_000
 OF_COUNTS = filled(
-    "The next table shows what one call takes on one thread, as valgrind counts it on a simulated "
-    "processor with 32 KiB of first-level cache for data and 1 MiB of second-level cache: "
-    "instructions, misses of the first-level cache, and misses of the second-level cache.")
+    "The next table shows how many instructions a call on one thread takes, and how often the call "
+    "misses the first-level and the second-level cache. The counts are those of valgrind, which "
+    "simulates a processor with 32 KiB of first-level cache for data and 1 MiB of second-level "
+    "cache.")
 OF_GROWTH = (
     "The next table shows the rate of {0} threads as a multiple of the rate of one thread. *One "
     "cache*: all threads use one cache. *Own shards*: they use one cache, but no two threads use "
     "the same shard. *jemalloc*: they use one cache, with jemalloc instead of glibc's malloc. *Own "
     "caches*: there are {0} processes instead of {0} threads, and each process has one thread and "
-    "its own cache. These processes share nothing but the processors and the memory of the "
-    "machine.")
+    "its own cache. These processes share only the processors and the memory of the machine.")
 BOUNDS = filled(
-    "In the runs of asks for one name, memos answer the asks as long as nothing changes in the "
-    "shelf of this name. A memo is an answer that a reader keeps. Zipf-distributed asks take fewer "
-    "instructions than those of unbound, but miss the second-level cache about as often. The other "
-    "calls take more instructions than those of unbound, and spend most of their instructions in "
-    "proved code. A look-up folds the name and hashes it under a secret seed, and then peeks. A "
-    "store reads and hashes the name a second time, checks the rdata, and counts the octets of "
-    "what it stores and evicts. A store that evicts also takes three blocks of memory from "
-    "`malloc` and frees three, and a store that replaces takes two and frees two. A store would "
-    "take fewer instructions if the proved call took the name that was already made. The table of "
-    "growth shows what limits several threads (numbers above the number of threads show how much "
-    "the speed of a virtual machine varies). Asks that hit grow in one cache as they do with own "
-    "caches, so sharing a cache costs them nothing that this table shows. Puts grow less in one "
-    "cache than on own shards. So what limits puts is that threads change the same shards: they "
-    "wait for locks, load cache lines that another processor has changed, and free memory that "
-    "another thread allocated. With jemalloc instead of glibc's malloc, puts grow about as much, "
-    "so the allocator is not the main cost. The three other threads use at most 3 of the 64 shards "
-    "at any time, so a put should find its shard locked in at most one of 20 cases, and most of "
-    "the cost is probably due to cache lines; neither was measured. A put misses the first-level "
-    "cache 25 to 29 times, and with unbound's cache 15 times: it uses more cache lines, and each "
-    "of them may have to come from another processor.")
+    "In the runs of asks for one name, memos (saved copies of earlier answers) answer the asks as "
+    "long as nothing changes in the shelf of this name. Zipf-distributed asks take fewer "
+    "instructions than with unbound's cache, but miss the second-level cache about as often. Puts, "
+    "and asks in the row \"asks that hit\", take more instructions than with unbound's cache, and "
+    "spend most of these in proved code. A look-up folds the name, hashes it under a secret seed, "
+    "and then peeks. A store reads and hashes the name a second time, checks the rdata, and counts "
+    "the octets of what it stores and evicts. A store that evicts also allocates three blocks of "
+    "memory and frees three, and a store that replaces allocates two and frees two. A store would "
+    "take fewer instructions if the proved call accepted the name that was already folded and "
+    "hashed. The table above shows what limits the speed of several threads. (Numbers in it that "
+    "exceed the number of threads show how much the speed of a virtual machine varies.) The rate "
+    "of asks that hit grows in one cache as it does with own caches, so this table shows no cost "
+    "of sharing a cache for these asks. The rates of puts grow less in one cache than on own "
+    "shards. So what limits puts is that threads change the same shards: the threads wait for "
+    "locks, load cache lines that another processor has changed, and free memory that another "
+    "thread allocated. With jemalloc instead of glibc's malloc, the rates of puts grow about as "
+    "much, so the allocator is not the main cost. At any time, the three other threads use at most "
+    "3 of the 64 shards, so a put should find its shard locked in at most one of 20 cases. Most of "
+    "the cost is therefore probably due to cache lines. Neither of these two conclusions was "
+    "measured. A put misses the first-level cache 25 to 29 times with rrcache, and 15 times with "
+    "unbound's cache. So a put of rrcache uses more cache lines, and each of them may have to come "
+    "from another processor.")
 KINDS = {"hit": "asks that hit", "zipf": "Zipf-distributed asks", "hot": "asks for one name",
          "replace": "puts that replace", "evict": "puts that evict"}
 # How tall the picture is, how tall its highest bar, and where the bars stand.
@@ -251,7 +253,7 @@ def main(args):
     ways = [(OF_CACHE, "cache", None),
             ("Shelves with mutexes and glibc's malloc:", "rrcache", None),
             ("Shelves with spin locks, like those of unbound:", "spinning", None),
-            ("Shelves with readers-writer locks, under which asks are peeks:", "peeking", None)]
+            ("Shelves with readers-writer locks, and with peeks instead of asks:", "peeking", None)]
     if jemalloc:
         ways.append(("Shelves with mutexes and jemalloc:", "rrcache", str(jemalloc)))
     head = [f"{what}, {of_threads(it)}" for it in args.threads for what in ("time", "rate")]
@@ -271,9 +273,11 @@ def main(args):
         (TOP / "docs" / "beside-unbound.svg").write_text(picture(rates, args.threads))
     write_section(
         args, TITLE,
-        f". rrcache and unbound's RRset cache had 64 shards each, and {args.names:,} names with "
-        f"one A record each. Each time and each rate is a ratio of the medians of {args.runs} runs "
-        f"of each cache, with {args.calls:,} calls per run; the runs of the two caches alternated. "
-        "Time is the processor time of a call as a multiple of the time that a call of unbound's "
-        "cache takes, so less is better. Rate is the number of calls per second of elapsed time as "
-        "a multiple of unbound's rate, so more is better.", *parts)
+        ". rrcache and unbound's RRset cache each had 64 shards. Both were used with "
+        f"{args.names:,} names that had one A record each. Each time and each rate is the ratio of "
+        f"two medians: one of {args.runs} runs of rrcache, and one of {args.runs} runs of "
+        f"unbound's cache. Each run had {args.calls:,} calls, and the runs of the two caches "
+        "alternated. "
+        "Time is the processor time of a call as a multiple of the processor time of a call of "
+        "unbound's cache, so lower is better. Rate is the number of calls per second of elapsed "
+        "time as a multiple of unbound's rate, so higher is better.", *parts)
