@@ -238,12 +238,12 @@
      short if the caller drops chapters often. `rrcache_free_chapters` frees taken chapters without
      a lock.
    - `rrcache_write_chapter` writes a taken chapter as text: a first line with the number of the
-     chapter and the rules of the shelf, a line for each key that was cached when the chapter began,
-     and a line for each event. The text of all chapters of one recording, in the order in which
-     they were taken, is an archive. The program `rrcache --audit-history` audits an archive: it
-     checks that the history in the archive follows the rules. Chapters are numbered from 1, and
-     chapters that were not recorded have numbers too. A recording begins with a new chapter, so the
-     number of its first chapter is 2 or higher.
+     chapter, the number of its first event and the rules of the shelf except the seed, a line for
+     each key that was cached when the chapter began, and a line for each event. The text of all
+     chapters of one recording, in the order in which they were taken, is an archive. The program
+     `rrcache --audit-history` audits an archive: it checks that the history in the archive follows
+     the rules. Chapters are numbered from 1, and chapters that were not recorded have numbers too.
+     A recording begins with a new chapter, so the number of its first chapter is 2 or higher.
    - Event numbers are used up if the next event would have the number 2^62, even if the shelf does
      not record. Chapter numbers are used up if the open chapter is full and has the number 2^62.
      Once event numbers or chapter numbers are used up, each call that has to write an event returns
