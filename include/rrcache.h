@@ -33,7 +33,10 @@
      shelf has at least as many places as there are threads. A call that changes a shelf keeps new
      look-ups out of the shelf, and waits until the look-ups already running in the shelf have
      finished. A look-up changes its shelf if, for example, it moves an entry in the LRU order (see
-     below). No call holds the locks of two shelves at the same time.
+     below). No call holds the locks of two shelves at the same time, so calls are not atomic across
+     shelves: while one call looks up or stores data in several shelves, other calls may change
+     these shelves. `rrcache_store` may even release the lock of a shelf between two of the RRsets
+     that it stores there.
    - If a look-up is repeated with the same timestamp, and the name is in lower case, the library
      may copy the answer from a memo, which is a saved copy of an earlier answer. The library does
      so only if nothing in the shelf of the name has changed since the library gave that earlier
@@ -74,8 +77,9 @@
      that may be aliases, and one of the names that may have an NXDOMAIN or a failure. All memos
      together use at most 1/16 of `octets`, and at most about 460 KiB times `readers`. The first
      filter uses at most about 1/80 of `octets`, and at most 128 KiB for each shelf. The second
-     filter uses 2 to 4 octets for each key that `keys` allows, regardless of `octets`: 8 MiB with
-     the default number of keys. So if `octets` is small, set `keys` too.
+     filter uses 2 to 4 octets for each key that `keys` allows, because its size for each shelf is a
+     power of 2. This size does not depend on `octets`: with the default number of keys, it is 8 MiB
+     in all shelves together. So if `octets` is small, set `keys` too.
    - A cache has at most 64 shelves of at most 65,536 keys each, so it has at most 4,194,304 keys.
      An RRset of one address with a short name uses 320 octets, so a cache holds at most about 1.3
      GB of such RRsets, even if `octets` is larger.
@@ -300,7 +304,9 @@ typedef int (*rrcache_shelf_sink)(void *state, uint64_t shelf, const void *octet
 RRCACHE_API enum rrcache_status rrcache_open(struct rrcache **cache,
                                              const struct rrcache_config *config);
 
-/* Closes a cache, and frees all its memory. If `cache` is null, the call does nothing. */
+/* Closes a cache, and frees all its memory. If `cache` is null, the call does nothing. After the
+   call, the behavior of every call with the same pointer is undefined, even of a second
+   `rrcache_close`. */
 RRCACHE_API void rrcache_close(struct rrcache *cache);
 
 /* Looks up the answer to a question. The answer contains the CNAME RRsets of the CNAME chain that
