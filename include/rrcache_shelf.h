@@ -1,40 +1,40 @@
 /* SPDX-License-Identifier: MIT */
-/* rrcache_shelf.h: the shelves of an RRset cache for recursive DNS resolvers, for C programs that
-   have one thread or do their own locking. rrcache.h, which includes this header, provides a cache
-   that has its own locks and that threads can share.
+/* rrcache_shelf.h: the shelves (shards) of an RRset cache for recursive DNS resolvers. This header
+   is for C programs that have one thread or do their own locking. rrcache.h, which includes this
+   header, provides a cache that has its own locks and that threads can share.
 
    A *shelf* is one shard of the cache. A resolver with several threads makes 16 to 64 shelves, and
    keeps a lock for each shelf. For each question, the resolver calls `rrcache_make_name` once. This
-   call folds the name (converts its letters to lower case), hashes it, and determines its shelf.
-   All data of a name are in one shelf, regardless of the case of the letters in the name. A hash of
-   the name under a secret seed determines the shelf, and all shelves of a cache have the same seed
-   (`struct rrcache_rules`, `struct rrcache_parts`). If the seed were not secret, an attacker could
-   choose names that all belong to one shelf, and so fill that shelf and keep its lock busy. With
-   more shelves, fewer threads wait for the same lock. For a program with one thread, one shelf
-   without a lock is enough.
+   call folds the name of the question (converts its letters to lower case), hashes the folded name,
+   and determines the shelf of the name. All data of a name are in one shelf, regardless of the case
+   of the letters in the name. A hash of the name under a secret seed determines the shelf, and all
+   shelves of a cache have the same seed (`struct rrcache_rules`, `struct rrcache_parts`). If the
+   seed were not secret, an attacker could choose names that all belong to one shelf, and thereby
+   fill that shelf and keep its lock busy. With more shelves, fewer threads wait for the same lock.
+   For a program with one thread, one shelf without a lock is enough.
 
    This header uses the following terms. There are three kinds of *key*. The first consists of a
-   name, a class and a type, and is for the RRset or NODATA of the type. The second consists of a
-   name and a class, and is for the NXDOMAIN of the name. The third consists of a name, a class and
-   a type, and is for the resolution failure of the type. An *entry* is the RRset, negative answer
-   or failure that a key holds. To *offer* data is to pass them to a shelf, which decides whether to
+   name, a class and a type, and holds the RRset or NODATA of the type. The second consists of a
+   name and a class, and holds the NXDOMAIN of the name. The third consists of a name, a class and a
+   type, and holds the resolution failure of the type. An *entry* is the RRset, negative answer or
+   failure that a key holds. To *offer* data is to pass them to a shelf, which decides whether to
    store them (`enum rrcache_outcome`). An *ask* looks up an answer, and moves the entry that it
    finds to the front of the LRU order. A *peek* looks up an answer but changes nothing. A *part* is
    the set of all names that belong to one shelf. A part and its shelf have the same number, counted
    from 0. A type or a class is *kept* if the library stores its data; the library skips data of all
-   other types and classes. A name, or the data of a name, is *in bailiwick* if the name is at or
-   below the zone whose servers were queried. The section "History and chapters" below defines
-   *events* and *chapters*.
+   other types and classes. A name and its data are *in bailiwick* if the name is at or below the
+   zone whose servers were queried. The section "History and chapters" below defines *events* and
+   *chapters*.
 
    docs/RULES.md describes the rules of the cache. Some names in this header differ from the terms
-   in that document: a `moment` is a timestamp, `trust` is a rank, `left` is a remaining TTL, and
-   `data` are rdata (docs/GLOSSARY.md). docs/UPGRADING.md explains how to change a program that was
-   written for version 1 of the library.
+   in that document: `moment` means timestamp, `trust` means rank, `left` means remaining TTL, and
+   `data` means rdata (docs/GLOSSARY.md). docs/UPGRADING.md explains how to change a program that
+   was written for version 1 of the library.
 
    Ownership
    - The caller owns the handles, the locks and the buffers, and the library keeps no pointer to any
-     of them after a call. The library owns the memory that it allocates. No pointer to this memory
-     leaves the library, except inside a handle. `rrcache_free` frees the memory of a shelf.
+     of them after a call returns. The library owns the memory that it allocates. No pointer to this
+     memory leaves the library, except inside a handle. `rrcache_free` frees the memory of a shelf.
    - Initialize a handle to zeros: `struct rrcache_shelf shelf = {0};`. The handle then holds no
      shelf. Once the handle is initialized, only the library may write to it. The caller may move a
      handle in memory while no call uses the handle, but must not use more than one copy of it. The
@@ -55,26 +55,27 @@
      error. No call takes more than one shelf, so no call needs the locks of two shelves.
    - The following calls on offers take no shelf, so they do not need the lock of a shelf:
      `rrcache_read_response`, `rrcache_read_message_unchecked`, `rrcache_tell_response`,
-     `rrcache_tell_offer` and `rrcache_free_offers`. Only one call at a time may use a handle for
-     offers. This restriction also applies to `rrcache_offer_read` and `rrcache_offer_one`, because
-     they write to the handle for the offers as well as to the handle of the shelf.
+     `rrcache_tell_offer` and `rrcache_free_offers`. No two calls may use the same handle for offers
+     at the same time. This restriction also applies to `rrcache_offer_read` and
+     `rrcache_offer_one`, because these calls write to the handle for the offers as well as to the
+     handle of the shelf.
    - `rrcache_take_chapters` and `rrcache_stop_recording` need the write lock of the shelf. The
      following calls on taken chapters need neither the shelf nor a lock: `rrcache_chapter_line`,
      `rrcache_write_line`, `rrcache_write_chapter` and `rrcache_free_chapters`. While these calls
-     run, other threads may use or free the shelf. Only one call at a time may use a handle for
-     chapters.
+     run, other threads may use or free the shelf. No two calls may use the same handle for chapters
+     at the same time.
    - `rrcache_fault`, `rrcache_make_name`, `rrcache_compose_response` and `rrcache_tell_octets` take
      no handle and need no lock.
    - No call waits, sleeps or takes a lock, unless malloc, realloc, free or the caller's sink does
-     so. Only `rrcache_write_line` and `rrcache_write_chapter` call a function of the caller: the
-     sink that the caller passes. Do not call a function of the library in a signal handler. If a
-     process with several threads calls fork, do not call a function of the library in the child
-     process.
+     so. A sink is a callback (`rrcache_sink`). Only `rrcache_write_line` and
+     `rrcache_write_chapter` call one: the sink that the caller passes. Do not call a function of
+     the library in a signal handler. If a process with several threads calls fork, do not call a
+     function of the library in the child process.
 
    Memory
    - The library allocates memory only with malloc and realloc, and frees it only with free. If an
-     allocation fails during a call, the call returns RRCACHE_MEMORY, unless it can do without the
-     memory.
+     allocation fails during a call, the call returns RRCACHE_MEMORY, unless the call can do without
+     the memory.
    - The following calls never allocate and never return RRCACHE_MEMORY, even for long names:
      `rrcache_peek`, `rrcache_peek_alias`, `rrcache_tell_stored`, `rrcache_sizes`,
      `rrcache_next_expiry`, `rrcache_make_name`, `rrcache_tell_response`, `rrcache_tell_offer`,
@@ -87,22 +88,23 @@
      such as `rrcache_room`. RRCACHE_DONE is 0, and every other status is an error. No error
      terminates the process.
    - For the functions of this header, 0 is not a valid purpose, mode, class, trust, kind, section,
-     seed or limit. So if the caller forgets to set one of these fields, a call that uses the field
-     returns an error. For the functions of rrcache.h, a seed or a limit of 0 means the default.
-   - If a call fails, the history of the shelf and the replies that the shelf gives are unchanged,
-     with five exceptions: `rrcache_offer_read`, `rrcache_offer_message_unchecked`,
-     `rrcache_offer_part_unchecked`, `rrcache_sweep_some` and `rrcache_trim`. These functions
-     perform several offers, sweeps or evictions, one after another. If one of these steps fails,
-     the earlier steps are not undone. The output `counts` then reports how many of the earlier
-     offers had each outcome, and the output `swept` reports how many keys the earlier sweeps
-     removed. If the shelf records, a failed call may have closed a full chapter, but closing a
-     chapter changes neither the history nor the replies. If `rrcache_write_chapter` or
-     `rrcache_write_line` fails, it may have written the beginning of the text.
+     seed or limit. So if the caller forgets to set a field that holds one of these values, a call
+     that uses the field returns an error. For the functions of rrcache.h, a seed or a limit of 0
+     means the default.
+   - If a call fails, neither the history of the shelf nor its replies change, with five exceptions:
+     `rrcache_offer_read`, `rrcache_offer_message_unchecked`, `rrcache_offer_part_unchecked`,
+     `rrcache_sweep_some` and `rrcache_trim`. Each of these functions performs several steps
+     (offers, sweeps or evictions), one after another. If a step fails, the earlier steps are not
+     undone. The output `counts` then reports how many of the earlier offers had each outcome, and
+     the output `swept` reports how many keys the earlier sweeps removed. If the shelf records, a
+     failed call may have closed a full chapter, but closing a chapter changes neither the history
+     nor the replies. If `rrcache_write_chapter` or `rrcache_write_line` fails, it may already have
+     written the beginning of the text.
    - If `rrcache_take_chapters` fails, the chapters stay in the shelf. If `rrcache_stop_recording`
      fails, the shelf continues to record.
    - If a call fails, its outputs are unmodified, with two exceptions. A call that returns
      RRCACHE_SMALL still writes to its outputs `told`, `name` and `size`, if it has them. A call
-     that has `counts` or `swept` as an output writes to this output, unless the error is
+     that has `counts` or `swept` as an output still writes to this output, unless the error is
      RRCACHE_NULL, RRCACHE_OVERLAP, RRCACHE_NO_SHELF or RRCACHE_NO_OFFERS.
 
    A message about names in several shelves
@@ -141,47 +143,49 @@
    - A message is truncated if TC (the bit 0x02 of the third octet) is set. Nothing from a truncated
      message is offered (RFC 2181 section 9). If such a message can be read, the call that reads it
      returns RRCACHE_DONE, all fields of `counts` are 0, no event is written, and
-     `rrcache_tell_response` reports that TC is set. If the message ends inside a record, the call
-     returns RRCACHE_BAD_MESSAGE. Whether or not the truncated message can be read, the caller must
-     send the query again over TCP. A message that ends inside a record but has TC clear also causes
-     RRCACHE_BAD_MESSAGE. So the caller must check TC before it treats RRCACHE_BAD_MESSAGE as a
-     failure of the server. Over TCP, a length of two octets precedes each message: do not pass
-     these two octets to the library.
+     `rrcache_tell_response` reports that TC is set. If the truncated message ends inside a record,
+     the call returns RRCACHE_BAD_MESSAGE. Whether or not the truncated message can be read, the
+     caller must send the query again over TCP. A message that ends inside a record but has TC clear
+     also causes RRCACHE_BAD_MESSAGE. So the caller must check TC before it treats
+     RRCACHE_BAD_MESSAGE as a failure of the server. Over TCP, a length of two octets precedes each
+     message: do not pass these two octets to the library.
    - Nothing from a message is offered if its opcode is not QUERY, if the class of its question is
      not kept, or if the name of its question is out of bailiwick.
    - The kept classes are IN, CH and HS (RFC 1035 section 3.2.4). docs/RULES.md lists the kept
-     types. Each class of a name has its own keys. A record of a message is ignored if its class
-     differs from that of the question. Data of type A in class CH are not kept, because the rdata
-     of this type in this class begin with a name. It is an error to ask for a class that is not
-     kept, or for type 0. A question for any other type that is not kept is allowed: the reply is a
-     miss, or RRCACHE_NXDOMAIN if an unexpired NXDOMAIN of the name is cached. For type ANY, such an
-     NXDOMAIN determines the reply even if unexpired RRsets of higher rank are cached for the name.
+     types. Each class of a name has its own keys. A record of a message is ignored if the class of
+     the record differs from that of the question. Data of type A in class CH are not kept, because
+     the rdata of this type in this class begin with a name. It is an error to ask for a class that
+     is not kept, or for type 0. A question for any other type that is not kept is allowed: the
+     reply is a miss, or RRCACHE_NXDOMAIN if an unexpired NXDOMAIN of the name is cached. For type
+     ANY, such an NXDOMAIN determines the reply even if unexpired RRsets of higher rank are cached
+     for the name.
    - Even if a message that answers its question has just been offered, the next ask for this
      question may be a miss. Apart from evictions, there are six possible causes: the answer is at
-     the end of a CNAME chain, or the chain is too long; the TTL is 0; the type is not kept; the
-     records of an RRset have different TTLs, AA is clear and `lowest_ttl` is not set; the response
-     is negative but has no suitable SOA record (docs/RULES.md, "What a response offers"); or the
-     RRset is not relevant. In all these cases, `rrcache_tell_response` still returns the kind of
-     the response, and `rrcache_tell_offer` returns each offer, including an RRset with TTL 0. The
-     caller can answer the waiting client from the output of these calls. The caller has to parse
-     the message only for data that are not offered, such as data of a type that is not kept.
+     the end of a CNAME chain, or the chain is too long; the TTL of the answer is 0; the type of the
+     question is not kept; the records of an RRset of the answer have different TTLs, AA is clear
+     and `lowest_ttl` is not set; the response is negative but has no suitable SOA record
+     (docs/RULES.md, "What a response offers"); or an RRset of the answer is not relevant. In all
+     these cases, `rrcache_tell_response` still returns the kind of the response, and
+     `rrcache_tell_offer` returns each offer, including an RRset with TTL 0. The caller can answer
+     the waiting client from the output of these calls. The caller has to parse the message only to
+     obtain data that are not offered, such as data of a type that is not kept.
    - If a message answers its question, but nothing from it is stored for the question, the message
-     does not end a failure that is cached for the question. Until the failure expires, a miss still
-     has the kind RRCACHE_FAILED. To end the failure earlier, call `rrcache_offer_failure` with
-     `ttl` 0.
+     does not end a failure that is cached for the question. Until the failure expires, an ask that
+     finds no answer to the question still returns the kind RRCACHE_FAILED, not RRCACHE_MISS. To end
+     the failure earlier, call `rrcache_offer_failure` with `ttl` 0.
    - A message from which nothing is stored changes a cached RRset only if an offer of the message
      has TTL 0 and clears the RRset. Otherwise, the RRset may still be returned, even as a stale
      answer. However, under RFC 8767 section 4, an authoritative response (AA set) with RCODE
      NOERROR or NXDOMAIN counts as a refresh, and the old RRset should no longer be returned. So if
-     nothing that governs the reply to the question (docs/RULES.md, "What is not stored") is stored
-     from such a response, the resolver should call `rrcache_offer_set` with `ttl` 0 and
-     RRCACHE_AUTHORITATIVE_ANSWER to clear the RRset.
-   - If the RCODE of a response is neither NOERROR nor NXDOMAIN, and the type of its question is
-     kept, a failure of the question is offered, even if the RCODE is FORMERR, NOTIMP or REFUSED. If
-     no cached data may answer the question, the reply is then RRCACHE_FAILED until the failure
-     expires or a later entry for the question is stored. So offer such a response only when the
-     resolver can neither query another server nor try again without EDNS.
-   - If the offers of a message have more new keys than the shelf can hold, later offers evict keys
+     such a response is offered, but nothing that governs the reply to the question is stored
+     (docs/RULES.md, "What is not stored"), the resolver should clear the old RRset. To do so, it
+     calls `rrcache_offer_set` with `ttl` 0 and RRCACHE_AUTHORITATIVE_ANSWER.
+   - If the type of the question is kept, a response with any RCODE other than NOERROR and NXDOMAIN,
+     including FORMERR, NOTIMP and REFUSED, offers a failure of the question. If no cached data may
+     answer the question, the reply is then RRCACHE_FAILED until the failure expires or a later
+     entry for the question is stored. So offer such a response only when the resolver can neither
+     query another server nor try again without EDNS.
+   - If the offers of a message need more new keys than the shelf can hold, later offers evict keys
      of earlier offers.
 
    Timestamps
@@ -193,12 +197,12 @@
      whole TTL of the entry. The field `age` of `struct rrcache_entry` is not this age, but a number
      of uses.
    - An entry has expired when its age is at least its TTL. An entry is *fully expired* when it can
-     no longer answer: a negative answer or a failure as soon as it has expired, and an RRset
-     `max_stale` seconds after it has expired.
+     no longer answer. A negative answer or a failure is fully expired as soon as it has expired,
+     and an RRset `max_stale` seconds after it has expired.
    - If the caller's clock is set back by a number of seconds, all cached data expire that many
-     seconds later. Data that had expired, but have not yet been replaced, cleared, evicted or
+     seconds too late. Data that had expired, but have not yet been replaced, cleared, evicted or
      swept, may answer again, and may prevent data of lower rank from being stored. If the clock is
-     set forward, data expire early, and a sweep then removes entries that are fully expired
+     set forward, data expire too early, and a sweep then removes entries that are fully expired
      according to that clock. Use a clock that cannot be set, and that keeps running while the
      machine is suspended. On Linux, CLOCK_BOOTTIME is such a clock, but CLOCK_MONOTONIC stops
      during suspension.
@@ -217,40 +221,40 @@
      `rrcache_stop_and_drop` stops recording and frees these chapters. No reply depends on whether a
      shelf records. The rest of this section applies only while a shelf records, except for the
      statements about event numbers and chapter numbers.
-   - An event uses 96 octets, plus the octets of its names and data.
+   - An event uses 96 octets of memory, plus the octets of its names and data.
    - A chapter is a segment of the history. The newest chapter is open, which means that new events
      are added to it. If a call has to write an event and the open chapter is full, the call first
      closes that chapter and opens the next one, under the lock of the shelf. A call that offers a
      message may close a chapter before each offer. No reply depends on where chapters end.
-   - The time to close a chapter grows with the number of keys that the shelf holds, and with the
-     number of keys that it held when the chapter began. The call that closes the chapter writes 16
-     octets for each key, and copies an entry of 56 octets for each key that has been used since the
-     chapter began. If the uses and removals of keys during the chapter outnumber the keys that the
-     shelf held when the chapter began, the call copies the entries of all keys instead.
+   - The time needed to close a chapter grows with the number of keys that the shelf holds, and with
+     the number of keys that it held when the chapter began. The call that closes the chapter writes
+     16 octets for each key, and copies an entry of 56 octets for each key that has been used since
+     the chapter began. If the uses and removals of keys during the chapter outnumber the keys that
+     the shelf held when the chapter began, the call copies the entries of all keys instead.
      `rrcache_record` begins a new chapter, and always copies the entries of all keys. Names, data
      and events are not copied. A good value for `chapter`, the maximum number of events in a
      chapter, is about the number of keys in the shelf.
    - A caller that records a history should regularly take the closed chapters with
-     `rrcache_take_chapters`, or drop them with `rrcache_drop_chapters`. The time to take chapters
-     does not depend on their number. Dropping chapters frees all their events, and all copied
-     entries that are not used elsewhere. So the time to drop chapters, which is spent under the
-     lock, grows with the number of events since chapters were last dropped or taken. This time is
-     short if the caller drops chapters often. `rrcache_free_chapters` frees taken chapters without
-     a lock.
+     `rrcache_take_chapters`, or drop them with `rrcache_drop_chapters`. The time needed to take
+     chapters does not depend on their number. Dropping chapters frees all their events, and all
+     copied entries that are not used elsewhere. So the time needed to drop chapters, which is spent
+     under the lock, grows with the number of events since chapters were last dropped or taken. This
+     time is short if the caller drops chapters often. `rrcache_free_chapters` frees taken chapters
+     without a lock.
    - `rrcache_write_chapter` writes a taken chapter as text: a first line with the number of the
-     chapter, the number of its first event and the rules of the shelf except the seed, a line for
-     each key that was cached when the chapter began, and a line for each event. The text of all
-     chapters of one recording, in the order in which they were taken, is an archive. The program
+     chapter, the number of its first event, and the rules of the shelf except the seed; a line for
+     each key that was cached when the chapter began; and a line for each event. The text of all
+     chapters of one recording, in the order in which they were taken, is an archive. The command
      `rrcache --audit-history` audits an archive: it checks that the history in the archive follows
      the rules. Chapters are numbered from 1, and chapters that were not recorded have numbers too.
      A recording begins with a new chapter, so the number of its first chapter is 2 or higher.
-   - Event numbers are used up if the next event would have the number 2^62, even if the shelf does
-     not record. Chapter numbers are used up if the open chapter is full and has the number 2^62.
+   - Whether or not the shelf records, event numbers are used up when the next event would have the
+     number 2^62. Chapter numbers are used up when the open chapter is full and has the number 2^62.
      Once event numbers or chapter numbers are used up, each call that has to write an event returns
      RRCACHE_HISTORY_FULL, even after chapters have been dropped. However, `rrcache_peek` still
      returns replies. After RRCACHE_HISTORY_FULL, the resolver has to free the shelf and make a new,
-     empty one; with `struct rrcache`, the resolver has to close the cache and open a new one. At
-     10^9 events a second, event numbers are used up after 146 years.
+     empty one. A resolver that uses `struct rrcache` has to close the cache and open a new one
+     instead. At 10^9 events a second, event numbers are used up after 146 years.
 
    Which error is returned
    - If several errors apply, a function of this header returns the first one in this list:
@@ -259,20 +263,19 @@
      RRCACHE_BAD_RULES; RRCACHE_BAD_SEED; RRCACHE_BAD_LIMITS; RRCACHE_BAD_CHOICE; RRCACHE_BAD_TYPE;
      RRCACHE_BAD_NAME; RRCACHE_OTHER_QUERY or RRCACHE_NO_QUESTION; RRCACHE_BAD_MESSAGE or
      RRCACHE_BAD_DATA; RRCACHE_OTHER_SEED; RRCACHE_WRONG_BODY; RRCACHE_WIDE; RRCACHE_SMALL;
-     RRCACHE_HISTORY_FULL; RRCACHE_MOMENT_TOO_LARGE. There is one exception: `rrcache_sweep_some`
-     and `rrcache_trim` check for RRCACHE_MOMENT_TOO_LARGE before RRCACHE_HISTORY_FULL.
-   - If malloc fails while a call checks for these errors, the call returns RRCACHE_MEMORY, even if
-     another error, for which the call has not yet checked, also applies.
+     RRCACHE_HISTORY_FULL; RRCACHE_MOMENT_TOO_LARGE. The exceptions are `rrcache_sweep_some` and
+     `rrcache_trim`, which check for RRCACHE_MOMENT_TOO_LARGE before RRCACHE_HISTORY_FULL.
+   - If an allocation fails while a call checks for these errors, the call returns RRCACHE_MEMORY,
+     even if another error, for which the call has not yet checked, also applies.
    - A call that offers a message checks for RRCACHE_HISTORY_FULL and RRCACHE_MOMENT_TOO_LARGE only
      when it makes an offer. If the message has no offers, the call returns RRCACHE_DONE, regardless
      of the timestamp and even if event numbers or chapter numbers are used up.
-   - Every function that returns a status returns RRCACHE_NULL and RRCACHE_OVERLAP as described at
-     the end of this comment. A function that uses the contents of a handle returns
-     RRCACHE_NO_SHELF, RRCACHE_NO_OFFERS or RRCACHE_NO_CHAPTERS if the handle holds nothing. Calls
-     that allocate memory may return RRCACHE_MEMORY. Calls that write an event return
-     RRCACHE_HISTORY_FULL if event numbers or chapter numbers are used up, and
-     RRCACHE_MOMENT_TOO_LARGE if the timestamp is above 2^40. The comments on most functions do not
-     repeat these conditions.
+   - The end of this comment describes when a function returns RRCACHE_NULL or RRCACHE_OVERLAP. A
+     function that uses the contents of a handle returns RRCACHE_NO_SHELF, RRCACHE_NO_OFFERS or
+     RRCACHE_NO_CHAPTERS if the handle holds nothing. Calls that allocate memory may return
+     RRCACHE_MEMORY. Calls that write an event return RRCACHE_HISTORY_FULL if event numbers or
+     chapter numbers are used up, and RRCACHE_MOMENT_TOO_LARGE if the timestamp is above 2^40. The
+     comments on most functions do not repeat these conditions.
 
    Names are in wire form (RFC 1035 section 3.1): complete, without compression pointers, and at
    most 255 octets long, including the zero octet at the end. Letters may be in upper or lower case.
@@ -283,16 +286,15 @@
 
    The names of the exported functions that this header declares begin with `rrc_`. These functions
    require pointers that are not null, and buffers that do not overlap. The inline functions that a
-   resolver calls check these conditions and then call an exported function, except
-   `rrcache_compose_response`, `rrcache_tell_octets` and `rrcache_status_text`, which call no
-   exported function. An inline function returns RRCACHE_NULL if a required pointer is null. It
-   returns RRCACHE_OVERLAP if anything that it writes, including the handle, overlaps another output
-   or an input. There is one exception: an output may overlap an input struct that contains
-   pointers, such as `struct rrcache_response`, and any input struct that is passed in the same call
-   as such a struct. The function reads these structs before it writes anything. Inputs may overlap
-   each other. The library cannot check whether a handle or a name was initialized to zeros, whether
-   two threads use one handle at the same time, or whether a buffer is as large as the size that is
-   passed with the buffer. */
+   resolver calls check these conditions. They then call an exported function, except
+   `rrcache_compose_response`, `rrcache_tell_octets` and `rrcache_status_text`, which call none. An
+   inline function returns RRCACHE_NULL if a required pointer is null. It returns RRCACHE_OVERLAP if
+   anything that it writes, including the handle, overlaps another output or an input. There is one
+   exception: if an input struct of a call contains pointers, as `struct rrcache_response` does, an
+   output may overlap any input struct of this call. The function reads these structs before it
+   writes anything. Inputs may overlap each other. The library cannot check whether a handle or a
+   name was initialized to zeros, whether two threads use one handle at the same time, or whether a
+   buffer is as large as the size that is passed with the buffer. */
 #ifndef RRCACHE_SHELF_H
 #define RRCACHE_SHELF_H
 
@@ -301,7 +303,7 @@
 #include <stdint.h>
 
 /* The initializer with which inline functions set a struct to zeros. In C++, the initializer is {},
-   because C++ compilers warn that {0} leaves out fields. */
+   because C++ compilers warn about the fields that {0} leaves out. */
 /* clang-format off */
 #ifdef __cplusplus
 #define RRCACHE_ZEROS {}
@@ -321,12 +323,12 @@ extern "C" {
 #define RRCACHE_VERSION                                                                            \
     (RRCACHE_VERSION_MAJOR * 65536 + RRCACHE_VERSION_MINOR * 256 + RRCACHE_VERSION_PATCH)
 
-/* What calls return. */
+/* The statuses that calls return. */
 enum rrcache_status {
     RRCACHE_DONE = 0,
     RRCACHE_NO_SHELF = 1,         /* the handle holds no shelf */
     RRCACHE_HAS_SHELF = 2,        /* the handle already holds a shelf */
-    RRCACHE_MEMORY = 3,           /* malloc failed */
+    RRCACHE_MEMORY = 3,           /* an allocation failed */
     RRCACHE_HISTORY_FULL = 4,     /* event numbers or chapter numbers are used up ("History and
                                      chapters" above) */
     RRCACHE_MOMENT_TOO_LARGE = 5, /* the timestamp is above 2^40 */
@@ -367,8 +369,8 @@ enum rrcache_status {
     RRCACHE_NO_CHAPTERS = 21,     /* the handle holds no chapters */
     RRCACHE_HAS_CHAPTERS = 22,    /* the handle already holds chapters or, in `rrcache_dump`,
                                      histories are being recorded */
-    RRCACHE_NO_LINE = 23,         /* the handle has no chapter, or the chapter has no line, with the
-                                     given number */
+    RRCACHE_NO_LINE = 23,         /* the handle has no chapter with the given number, or that
+                                     chapter has no line with the given number */
     RRCACHE_SINK = 24,            /* the sink returned nonzero (never returned by `rrc_`
                                      functions) */
     RRCACHE_OVERLAP = 25,         /* an output overlaps another argument (never returned by `rrc_`
@@ -412,8 +414,8 @@ enum rrcache_purpose { RRCACHE_ANYTHING = 1, RRCACHE_QUESTION = 2 };
 enum rrcache_mode { RRCACHE_NO_STALE = 1, RRCACHE_STALE_IF_FAILED = 2, RRCACHE_STALE_NOW = 3 };
 
 /* The rank of data (RFC 2181 section 5.4.1), from low to high. A negative answer from a response
-   has rank 4 if AA is set and it is about the name of the question itself. All other negative
-   answers from responses have rank 2. */
+   has rank 4 if AA is set and the negative answer is about the name of the question itself. All
+   other negative answers from responses have rank 2. */
 enum rrcache_trust {
     RRCACHE_ADDITIONAL = 1,               /* data of the additional section, or of the authority
                                              section of a non-authoritative response */
@@ -439,8 +441,8 @@ enum rrcache_outcome { RRCACHE_KEPT = 1, RRCACHE_CLEARED = 2, RRCACHE_OUTRANKED 
 /* The kind of a response from a server of a zone: what the response means for its question (RFC
    1034 section 5.3.3). In the comments below, *the type* is the type of the question. *The name* is
    the name of the question or, if CNAME records of the response lead from that name to another
-   name, that other name. At most 16 CNAME records are followed, and only as long as their owners
-   are in bailiwick. For a question of type CNAME or ANY, no CNAME record is followed. */
+   name, that other name. The library follows at most 16 CNAME records, and only as long as their
+   owners are in bailiwick. For a question of type CNAME or ANY, it follows no CNAME record. */
 enum rrcache_response_kind {
     RRCACHE_RESPONSE_ANSWER = 1,       /* the response has data of the type for the name */
     RRCACHE_RESPONSE_UNEQUAL_TTLS = 2, /* the response has data of the type for the name, but these
@@ -479,7 +481,8 @@ enum rrcache_response_kind {
 /* The reason why octets cannot be read as a response (`rrcache_fault`). */
 enum rrcache_message_fault {
     RRCACHE_NO_FAULT = 0,         /* the octets can be read */
-    RRCACHE_SHORT = 1,            /* the message ends too soon */
+    RRCACHE_SHORT = 1,            /* the message ends before its header, its question or one of its
+                                     records is complete */
     RRCACHE_RESERVED_BITS = 2,    /* the top two bits of a length octet of a name are 01 or 10 */
     RRCACHE_POINTER = 3,          /* a compression pointer does not lead to an offset below the
                                      start of its run (docs/RULES.md, "Messages") */
@@ -521,8 +524,8 @@ struct rrcache_name {
     uint64_t part;
     uint8_t seed[16];
     uint8_t size;
-    uint8_t octets[255]; /* the first `size` octets are the name in wire form, with A to Z in lower
-                            case; the other octets are unmodified */
+    uint8_t octets[255]; /* the first `size` octets are the name in wire form, with the letters A to
+                            Z in lower case; the other octets are unmodified */
 };
 
 /* How names are divided among shelves: `count` is the number of shelves, 1 to 64, and `seed` is the
@@ -539,8 +542,8 @@ struct rrcache_parts {
 struct rrcache_rules {
     uint64_t capacity;  /* the maximum number of keys in the shelf: 1 to 65,536 */
     uint64_t chapter;   /* the maximum number of events in a recorded chapter: 1 to 1,048,576 */
-    uint64_t max_stale; /* for how many seconds an RRset may be served past its TTL: 0 to 604,800,
-                           which is a week */
+    uint64_t max_stale; /* for how many seconds an RRset may be served past its TTL: 0 to 604,800 (a
+                           week) */
     uint8_t seed[16];   /* 16 secret random octets, not all 0, the same for all shelves of a
                            cache */
 };
@@ -564,11 +567,12 @@ struct rrcache_question {
 struct rrcache_entry {
     uint32_t kind;   /* enum rrcache_kind, or 0 if nothing is stored */
     uint32_t trust;  /* enum rrcache_trust; 0 for a failure */
-    uint32_t ttl;    /* the TTL that was stored. For an RRset or a negative answer from a message,
-                        it is at most `cap` of `struct rrcache_limits`; for a failure from a
-                        message, it is `recheck`; for other data, it is the TTL that was offered. A
-                        resolver that prefetches renews an entry if a client asks for it shortly
-                        before `ttl` seconds have passed since `moment` */
+    uint32_t ttl;    /* the TTL that was stored. For data from a message, the limits in `struct
+                        rrcache_limits` apply: the TTL of an RRset is at most `cap`, the TTL of a
+                        negative answer is at most the lower of `cap` and `negative_cap`, and the
+                        TTL of a failure is `recheck`. For other data, it is the TTL that was
+                        offered. A resolver that prefetches renews an entry if a client asks for it
+                        shortly before `ttl` seconds have passed since `moment` */
     uint64_t moment; /* the timestamp of the offer that was stored */
     uint64_t number; /* the number of the event that stored the entry; no other entry of the shelf
                         has this number */
@@ -595,8 +599,9 @@ struct rrcache_told {
                             RRCACHE_FAILED */
     uint64_t retry_from; /* for RRCACHE_FAILED, the timestamp from which the resolver may try again;
                             otherwise 0. After a reply of kind RRCACHE_STALE, a peek with
-                            RRCACHE_NO_STALE returns this timestamp if a failure is recent; for a
-                            `struct rrcache`, use a look-up with RRCACHE_NO_STALE instead */
+                            RRCACHE_NO_STALE returns this timestamp if the shelf holds a recent
+                            failure; for a `struct rrcache`, use a look-up with RRCACHE_NO_STALE
+                            instead */
     uint64_t owner_size;
     uint64_t data_size;
     struct rrcache_entry entry; /* the entry that gives the reply */
@@ -680,7 +685,7 @@ struct rrcache_usage {
     uint64_t octets; /* the approximate number of octets of memory that the keys use */
 };
 
-/* Which offers of a message to make: the offers of one part. Parts are counted from 0. */
+/* Which offers of a message to make: the offers for one part. Parts are counted from 0. */
 struct rrcache_share {
     uint64_t part;
     uint64_t line;
@@ -700,13 +705,14 @@ struct rrcache_place {
     uint64_t from;
 };
 
-/* The number of octets of a line, including its LF, and how many of these octets were written. */
+/* The number of octets in a line, including its LF, and the number of these octets that were
+   written. */
 struct rrcache_line {
     uint64_t size;
     uint64_t written;
 };
 
-/* ---- Arguments of functions. The field after each pointer to octets is the number of these
+/* ---- Function arguments. The field after each pointer to octets contains the number of these
    octets. Use designated initializers for the structs below, so that the fields that you leave out
    are 0.
 
@@ -1057,8 +1063,8 @@ static inline bool rrcache_is_there(const void *octets, size_t size)
 }
 
 /* Returns whether two ranges of memory overlap, that is, whether one of them begins within the
-   other. An empty range overlaps nothing. If `a` is above `b`, `b - a` wraps around, and the result
-   is larger than the size of any object. */
+   other. An empty range overlaps nothing. `a` and `b` are the start addresses of the two ranges. If
+   `a` is above `b`, `b - a` wraps around, and the result is larger than the size of any object. */
 static inline bool rrcache_overlap(const void *one, size_t one_size, const void *other,
                                    size_t other_size)
 {
@@ -1128,8 +1134,8 @@ static inline enum rrcache_status rrcache_make_name(struct rrcache_name *name,
 }
 
 /* Starts recording the history of the shelf. The open chapter ends without being recorded, and the
-   next chapter begins with the entries of the shelf. The call needs as much memory and time as
-   closing a chapter in which every key was used. Replies do not change. If the shelf is already
+   next chapter begins with the entries of the shelf. The call needs as much memory and time as the
+   closing of a chapter in which every key was used. Replies do not change. If the shelf is already
    recording, the call does nothing. Returns RRCACHE_HISTORY_FULL if the open chapter has the number
    2^62. If the call fails, the shelf is unchanged. Needs the write lock. */
 static inline enum rrcache_status rrcache_record(struct rrcache_shelf *shelf)
@@ -1369,8 +1375,8 @@ static inline size_t rrcache_put_response(const struct rrcache_query *query,
 
    In the message, the RRsets of a section are in the order of the array `sets`, and the records of
    an RRset are in the order of its data. If the records of an RRset have different TTLs, pass one
-   `struct rrcache_parsed_set` for each record. When the message is read, all sets with the same
-   owner, type and class in a section become one RRset. An OPT record may be left out, because it
+   `struct rrcache_parsed_set` for each record. When the message is read, all sets of a section that
+   have the same owner, type and class become one RRset. An OPT record may be left out, because it
    causes no offer. If data do not match the layout of their type, the call that reads the message
    returns RRCACHE_BAD_MESSAGE. Names in the data must not contain compression pointers, because a
    pointer would lead to the wrong offset in the new message. `rrcache_compose_response` does not
@@ -1434,7 +1440,7 @@ static inline enum rrcache_status rrcache_can_read(const struct rrcache_response
    on. The caller can then make the offers to shelves with `rrcache_offer_read` or
    `rrcache_offer_one`, get the contents of each offer with `rrcache_tell_offer`, and get the kind
    of the response with `rrcache_tell_response`. If a response has no offers, for example because TC
-   is set, `concerned` is 0. When the offers are no longer needed, always call
+   is set, `concerned` is 0. When the contents of the handle are no longer needed, call
    `rrcache_free_offers`, even if the response had no offers. `rrcache_read_response` takes no
    shelf, needs no lock, and writes no event.
 
@@ -1445,28 +1451,29 @@ static inline enum rrcache_status rrcache_can_read(const struct rrcache_response
 
    The call reads the header and the question of the message first, and compares the identifier and
    the question with those of the query (RFC 5452 section 9.1). If either differs, the call returns
-   RRCACHE_OTHER_QUERY and does not read the rest of the message. So the time to reject such a
-   message does not depend on the length of the message. Anyone may have sent the message, so the
+   RRCACHE_OTHER_QUERY and does not read the rest of the message. So the time needed to reject such
+   a message does not depend on the length of the message. Anyone may have sent the message, so the
    caller should drop it and keep waiting for the response. The call also returns
    RRCACHE_OTHER_QUERY if the message is too short for a header, or if QR is clear. If `with_case`
    of the query is set, a name with a letter in a different case counts as different. A name that is
    written with a compression pointer always counts as different. Two errors count as failures of
    the server (RFC 8767 section 5): RRCACHE_NO_QUESTION, which means that the response is a header
    without a question, and RRCACHE_BAD_MESSAGE, which means that the message answers the query but
-   cannot be read. If TC is set, RRCACHE_BAD_MESSAGE is not a failure: send the query again over
-   TCP. If a server returns FORMERR without a question, the reason may be that the server does not
-   support EDNS (RFC 6891 section 7).
+   cannot be read. If TC is set, RRCACHE_BAD_MESSAGE does not count as a failure: send the query
+   again over TCP. If a server returns FORMERR without a question, the reason may be that the server
+   does not support EDNS (RFC 6891 section 7).
 
    The following data are relevant:
-   - In the answer section, an RRset is relevant if it meets two conditions. First, its owner is the
-     name of the question, or one of at most 11 names to which CNAME records lead from that name.
-     Second, its type is the type of the question or CNAME; for a question of type ANY, any type is
-     allowed. A DNAME RRset is also relevant if its owner is above the name of the question or above
-     one of those other names. For a question of type CNAME or ANY, no CNAME record is followed.
+   - In the answer section, an RRset is relevant if it meets two conditions. First, its owner is one
+     of the question's names: the name of the question, or one of at most 11 names to which CNAME
+     records lead from that name. Second, its type is the type of the question or CNAME; for a
+     question of type ANY, any type is allowed. A DNAME RRset is also relevant if its owner is above
+     one of the question's names. For a question of type CNAME or ANY, the call follows no CNAME
+     record.
    - In the authority section, for each of the types NS, SOA and DS, the first RRset whose owner is
      at or above the final name is relevant. The final name is the name at the end of the CNAME
-     chain that begins at the name of the question. If no CNAME record is followed, the final name
-     is the name of the question. A chain of more than 16 CNAME records has no final name.
+     chain that begins at the name of the question. If the call follows no CNAME record, the final
+     name is the name of the question. A chain of more than 16 CNAME records has no final name.
    - In the additional section, the A and AAAA RRsets of hosts are relevant. The hosts are the first
      20 names in the rdata of relevant NS, MX and SRV RRsets. The names in NS RRsets come first;
      apart from that, the names are in the order of the first records of their RRsets. A name that
@@ -1482,7 +1489,7 @@ static inline enum rrcache_status rrcache_can_read(const struct rrcache_response
      is a referral (RFC 1034 section 4.3.2). This restriction prevents the servers of a zone from
      renewing the delegation of the zone by adding NS records to the authority section of other
      responses. In a referral, AA is clear and the owner of the NS RRset is below `zone`. A repeated
-     referral renews its NS RRset. A caller that wants a delegation to end when the TTL from its
+     referral renews its NS RRset. A caller that wants a delegation to end when the TTL from the
      first referral runs out must peek for the NS RRset of each referral before it makes the offers
      of that referral. If an unexpired NS RRset with the same data is cached, the caller must not
      make the offers for the part to which the owner of this RRset belongs.
@@ -1597,17 +1604,17 @@ static inline enum rrcache_status rrcache_tell_response(struct rrcache_offers *o
 }
 
 /* Writes one of the offers of a handle to `told`, `buffer` and `name`. Offers are numbered from 0,
-   in the order in which the message makes them (docs/RULES.md, "What a response offers"). The call
-   writes the offer in the form of a reply that is given at the timestamp of the response, when the
+   in the order in which the response offers them (docs/RULES.md, "What a response offers"). The
+   call writes the offer in the form of a reply to an ask at the timestamp of the response, when the
    whole TTL is left. So the caller can answer a waiting client even with data that no shelf stores:
    data with TTL 0, or data of lower rank than the cached data. The call writes to `name` the name
    of the offer: the owner of an RRset, or the name of a negative answer or a failure. This name is
    made under the seed with which the response was read, and its `part` is the part of the offer.
 
    `told->rtype` is the type of the offer, or 0 for RRCACHE_NXDOMAIN. For RRCACHE_FAILED,
-   `told->retry_from` is the timestamp at which the failure ends. `told->entry` contains the kind,
-   rank, TTL and timestamp of the offer. The `number` and `age` of this entry are 0, because only a
-   stored entry has them. All offers of a response have the class of its question.
+   `told->retry_from` is the timestamp at which the failure expires. `told->entry` contains the
+   kind, rank, TTL and timestamp of the offer. The `number` and `age` of this entry are 0, because
+   only a stored entry has them. All offers of a response have the class of its question.
 
    Returns RRCACHE_NO_OFFERS if the handle has no offer with the number `index`. Returns
    RRCACHE_SMALL if the buffer is too small: the call then writes to `name` and `told`, but leaves
@@ -1680,11 +1687,11 @@ static inline enum rrcache_status rrcache_tell_octets(const struct rrcache_name 
 }
 
 /* Makes one of the offers of a handle, and writes the outcome (`enum rrcache_outcome`) to
-   `outcome`. With this call, a caller such as a validator can make only those offers of a message
-   that it accepts. `pick->index` is the number of the offer, counted from 0. The offer is made to
-   `shelf`, which must be the shelf of the offer's part: the `part` of the name that
-   `rrcache_tell_offer` writes. The call does not check that the shelf is the right one. Returns
-   RRCACHE_NO_OFFERS if the handle has no offer with the number `pick->index`, and
+   `outcome`. With this call, a caller (for example a validator) can make only those offers of a
+   message that the caller accepts. `pick->index` is the number of the offer, counted from 0. The
+   offer is made to `shelf`, which must be the shelf of the offer's part: the `part` of the name
+   that `rrcache_tell_offer` writes. The call does not check whether `shelf` is the shelf of this
+   part. Returns RRCACHE_NO_OFFERS if the handle has no offer with the number `pick->index`, and
    RRCACHE_OTHER_SEED if the seed of the shelf is not the seed with which the message was read.
    Needs the write lock of the shelf. */
 static inline enum rrcache_status rrcache_offer_one(struct rrcache_shelf *shelf,
@@ -1805,13 +1812,13 @@ rrcache_offer_set(struct rrcache_shelf *shelf, const struct rrcache_set *set, ui
         rrcache_octets(set->data, set->data_size), set->data_size, outcome);
 }
 
-/* Offers a negative answer (RFC 2308), which says that a name has no data of a type, or that a name
-   does not exist. Writes the outcome to `outcome`. Returns RRCACHE_BAD_CHOICE if `trust` is not a
-   rank or `kind` is neither RRCACHE_NODATA nor RRCACHE_NXDOMAIN; RRCACHE_BAD_TYPE if the class is
-   not kept or, for RRCACHE_NODATA, if data of the type are not kept in the class; RRCACHE_BAD_NAME
-   if the name or the owner of the SOA record is not in wire form; RRCACHE_BAD_DATA if `soa` is not
-   the rdata of an SOA record; and RRCACHE_WRONG_BODY if `ttl` is above 2^31 - 1. Needs the write
-   lock. */
+/* Offers a negative answer (RFC 2308), which states that a name has no data of a type, or that a
+   name does not exist. Writes the outcome to `outcome`. Returns RRCACHE_BAD_CHOICE if `trust` is
+   not a rank or `kind` is neither RRCACHE_NODATA nor RRCACHE_NXDOMAIN; RRCACHE_BAD_TYPE if the
+   class is not kept or, for RRCACHE_NODATA, if data of the type are not kept in the class;
+   RRCACHE_BAD_NAME if the name or the owner of the SOA record is not in wire form; RRCACHE_BAD_DATA
+   if `soa` is not the rdata of an SOA record; and RRCACHE_WRONG_BODY if `ttl` is above 2^31 - 1.
+   Needs the write lock. */
 static inline enum rrcache_status rrcache_offer_negative(struct rrcache_shelf *shelf,
                                                          const struct rrcache_negative *negative,
                                                          uint32_t *outcome)
@@ -1892,8 +1899,8 @@ static inline enum rrcache_status rrcache_can_tell(const struct rrcache_shelf *s
     return RRCACHE_DONE;
 }
 
-/* Looks up the answer to a question. The call is one event, and the entry that gives the answer
-   moves to the front of the LRU order. The call writes the reply to `told` and `buffer`.
+/* Looks up the answer to a question. The call is one event, and moves the entry that gives the
+   answer to the front of the LRU order. The call writes the reply to `told` and `buffer`.
 
    Returns RRCACHE_BAD_CHOICE if the question has an unknown purpose or mode, RRCACHE_BAD_TYPE if
    its type is 0 or its class is not kept, RRCACHE_BAD_NAME if `name` holds no name, and
@@ -1906,7 +1913,8 @@ static inline enum rrcache_status rrcache_can_tell(const struct rrcache_shelf *s
 
    A reply needs at most 255 octets for its owner, plus the octets of its data. For data that
    `rrcache_read_response` read, 28,551 octets are always enough: 255 for the owner, 16,384 for the
-   rdata, and 2 for the length of each record's rdata. At most 5,956 records fit in a message. */
+   rdata, and 11,912 for the lengths that precede the rdata. Each length takes 2 octets, and at most
+   5,956 records fit in a message. */
 static inline enum rrcache_status rrcache_ask(struct rrcache_shelf *shelf,
                                               const struct rrcache_name *name,
                                               const struct rrcache_question *question,
@@ -1944,9 +1952,10 @@ static inline enum rrcache_status rrcache_peek(const struct rrcache_shelf *shelf
                                          buffer_size == 0 ? &none : buffer, buffer_size);
 }
 
-/* Looks up either the data of the question's type or the CNAME record of the name. Like
-   `rrcache_ask`, the call is one event. `told->rtype` is 5 if the reply is the CNAME record, and
-   otherwise the type of the question. The errors are those of `rrcache_ask`. Needs the write lock.
+/* Looks up the data of the question's type and the CNAME record of the name, and returns one of the
+   two. Like `rrcache_ask`, the call is one event. `told->rtype` is 5 if the reply is the CNAME
+   record, and otherwise the type of the question. The errors are those of `rrcache_ask`. Needs the
+   write lock.
 
    The reply is the CNAME record if two conditions hold. First, the record would answer a question
    of type CNAME, either as a fresh answer or as an acceptable stale answer. Second, the record
@@ -1972,12 +1981,12 @@ static inline enum rrcache_status rrcache_peek(const struct rrcache_shelf *shelf
 
    A failure belongs to the name and type of the question. So with RRCACHE_STALE_IF_FAILED, an
    expired CNAME record may be returned as a stale answer only if the shelf holds a recent failure
-   of the type of the question; a failure of type CNAME does not count. A failure of the question is
+   of the type of the question. A failure of type CNAME does not count. A failure of the question is
    not a failure of the names to which the CNAME record leads. So to learn whether stale answers are
    acceptable for these names, peek for the question with RRCACHE_NO_STALE. If the reply has the
    kind RRCACHE_FAILED, ask for each name of the chain with RRCACHE_STALE_NOW. If the shelf holds
    unexpired data of the type that are older than the failure, the peek returns these data instead.
-   In this case, call `rrcache_tell_stored`: it returns the failure too, and the `number` fields of
+   In this case, call `rrcache_tell_stored`: it also returns the failure, and the `number` fields of
    the entries show whether the failure was stored after the data. */
 static inline enum rrcache_status rrcache_ask_alias(struct rrcache_shelf *shelf,
                                                     const struct rrcache_name *name,
@@ -2116,15 +2125,15 @@ static inline enum rrcache_status rrcache_sweep_some(struct rrcache_shelf *shelf
 
    A trim does not limit all of the memory that a shelf uses. The first sweep of a shelf visits all
    its keys, and from then on the shelf keeps the times at which its keys fully expire.
-   RRCACHE_ENTRY_OCTETS includes room for one expiry time per key, but for a while the shelf may
-   keep more expiry times than keys. SECURITY.md reports how much memory trimmed shelves used in
-   tests.
+   RRCACHE_ENTRY_OCTETS includes room for one expiry time per key, but the shelf may temporarily
+   keep more expiry times than keys (`rrcache_sizes`). SECURITY.md reports how much memory trimmed
+   shelves used in tests.
 
    Returns RRCACHE_BAD_RULES if `limit` or `most` is 0, and RRCACHE_MOMENT_TOO_LARGE if the
-   timestamp is above 2^40. In both cases, the call does nothing. The call may return RRCACHE_MEMORY
-   or RRCACHE_HISTORY_FULL after it has removed some keys: these keys stay removed, and `trimmed` is
-   unmodified. While the shelf does not record, a trim allocates memory only for a sweep at
-   timestamp 0. */
+   timestamp is above 2^40. In either case, the call does nothing. The call may return
+   RRCACHE_MEMORY or RRCACHE_HISTORY_FULL after it has removed some keys: these keys stay removed,
+   and `trimmed` is unmodified. While the shelf does not record, a trim allocates memory only for a
+   sweep at timestamp 0. */
 static inline enum rrcache_status rrcache_trim(struct rrcache_shelf *shelf,
                                                const struct rrcache_trim_to *trim,
                                                struct rrcache_trimmed *trimmed)
@@ -2166,11 +2175,10 @@ static inline enum rrcache_status rrcache_can_take(const struct rrcache_shelf *s
 
 /* Moves the closed chapters of the shelf, the oldest first, into a handle that holds no chapters,
    and writes the number of these chapters to `count`. `count` is 0 while the shelf does not record.
-   Replies do not change. The call allocates one small block of memory, whose size is fixed. The
-   time that the call takes does not grow with the number of events. Later calls on these chapters
-   do not need the lock of the shelf. Free the chapters with `rrcache_free_chapters`, even if
-   `count` is 0. Returns RRCACHE_HAS_CHAPTERS if the handle already holds chapters. Needs the write
-   lock. */
+   Replies do not change. The call allocates one small memory block of fixed size. The time that the
+   call takes does not grow with the number of chapters or events. Later calls on these chapters do
+   not need the lock of the shelf. Free the chapters with `rrcache_free_chapters`, even if `count`
+   is 0. Returns RRCACHE_HAS_CHAPTERS if the handle already holds chapters. Needs the write lock. */
 static inline enum rrcache_status rrcache_take_chapters(struct rrcache_shelf *shelf,
                                                         struct rrcache_chapters *chapters,
                                                         uint64_t *count)
@@ -2234,8 +2242,8 @@ static inline enum rrcache_status rrcache_chapter_line(struct rrcache_chapters *
 }
 
 /* Writes a line of a chapter to `sink`, from the octet `place->from` of the line to its LF. All
-   fields of `place` are counted from 0. Each call to the sink receives RRCACHE_PIECE_OCTETS octets
-   of the line, except the last call, which receives the rest. If the sink returns nonzero,
+   fields of `place` are counted from 0. Each call of the sink passes RRCACHE_PIECE_OCTETS octets of
+   the line, except the last call, which passes the rest. If the sink returns nonzero,
    `rrcache_write_line` writes nothing more and returns RRCACHE_SINK. The other errors are those of
    `rrcache_chapter_line`. Needs no lock. */
 static inline enum rrcache_status rrcache_write_line(struct rrcache_chapters *chapters,
@@ -2260,12 +2268,12 @@ static inline enum rrcache_status rrcache_write_line(struct rrcache_chapters *ch
     return RRCACHE_DONE;
 }
 
-/* Writes all lines of a chapter to `sink`, each in the same way as `rrcache_write_line`. `chapter`
-   is the position of the chapter in the handle, counted from 0. The text of all chapters of one
-   recording, in the order in which they were taken, is an archive of the history. The sink must not
-   pass `chapters` to a function of the library. Returns RRCACHE_NO_LINE if the handle has no
-   chapter at the position `chapter`. The other errors are those of `rrcache_write_line`. Needs no
-   lock. */
+/* Writes all lines of a chapter to `sink`, each in the same way as `rrcache_write_line` does.
+   `chapter` is the position of the chapter in the handle, counted from 0. The text of all chapters
+   of one recording, in the order in which they were taken, is an archive of the history. The sink
+   must not pass `chapters` to a function of the library. Returns RRCACHE_NO_LINE if the handle has
+   no chapter at the position `chapter`. The other errors are those of `rrcache_write_line`. Needs
+   no lock. */
 static inline enum rrcache_status rrcache_write_chapter(struct rrcache_chapters *chapters,
                                                         uint64_t chapter, rrcache_sink sink,
                                                         void *state)
@@ -2300,7 +2308,7 @@ static inline enum rrcache_status rrcache_free_chapters(struct rrcache_chapters 
    of a name and a class; and those for the resolution failure of a name, a class and a type. While
    the shelf does not record, the numbers of events and chapters are 0. Needs only the read lock.
 
-   The number of octets is approximately the memory that the keys use. A key uses
+   The number of octets is approximately the amount of memory that the keys use. A key uses
    RRCACHE_ENTRY_OCTETS, plus the octets for its name. An RRset uses RRCACHE_SHARED_OCTETS, plus the
    octets for the rdata of each record. An RRset of several records also uses RRCACHE_VALUE_OCTETS
    and RRCACHE_BLOCK_OCTETS. A negative answer uses RRCACHE_SHARED_OCTETS, plus the octets for the
@@ -2313,10 +2321,9 @@ static inline enum rrcache_status rrcache_free_chapters(struct rrcache_chapters 
    The shelf updates its counts of keys and octets whenever keys change, so the time that
    `rrcache_sizes` takes does not grow with the number of keys. The number of octets does not
    include the memory of events and chapters, which keep data even after the data have been
-   replaced, evicted or swept. Nor does it include the names and expiry times of evicted keys: a
-   shelf that has been swept keeps them until these keys would have expired. If the shelf held n
-   keys when data were last stored, it keeps these names and times for at most 2n + 64 evicted
-   keys. */
+   replaced, evicted or swept. Nor does it include the names and expiry times of evicted and cleared
+   keys: a shelf that has been swept keeps them until these keys would have fully expired. If the
+   shelf held n keys when data were last stored, it keeps at most 2n + 64 such names and times. */
 static inline enum rrcache_status rrcache_sizes(const struct rrcache_shelf *shelf,
                                                 struct rrcache_usage *sizes)
 {
