@@ -2,15 +2,15 @@
 /* rrcache.h: an RRset cache for recursive DNS resolvers, shared by all threads.
 
    `struct rrcache` is a cache that does its own locking. The cache is written in C, on top of the
-   shelves (shards) of rrcache_shelf.h. The exported functions of the shelves (`rrc_..`) are proved
-   to meet their contracts. docs/RULES.md describes the rules that these functions follow. The
-   inline functions of the headers and the C code of the cache are tested, not proved. A program
-   with one thread, or with its own locks, can use the shelves directly. The header rrcache_shelf.h
-   also defines the terms of both headers, such as *key* and *entry*.
+   shelves (shards) of rrcache_shelf.h. The exported functions of the shelves, whose names begin
+   with `rrc_`, are proved to meet their contracts. These functions follow the rules in
+   docs/RULES.md. The inline functions of the headers and the C code of the cache are tested, not
+   proved. A program with one thread, or with its own locks, can use the shelves directly. The terms
+   that both headers use, such as *key* and *entry*, are defined in rrcache_shelf.h.
 
    The section "A caller's checklist" of SECURITY.md lists what a resolver itself has to do. The
    program examples/stub.c is a complete stub resolver that uses a `struct rrcache`. A process may
-   have several caches, for example one for each view. Each cache has its own seed and limits.
+   open several caches, for example one for each view. Each cache has its own seed and limits.
 
    Threads
    - The library starts no threads.
@@ -33,67 +33,70 @@
      shelf has at least as many places as there are threads. A call that changes a shelf keeps new
      look-ups out of the shelf, and waits until the look-ups already running in the shelf have
      finished. A look-up changes its shelf if, for example, it moves an entry in the LRU order (see
-     below). No call holds the locks of two shelves at the same time, so calls are not atomic across
+     the item on eviction below).
+   - No call holds the locks of two shelves at the same time, so calls are not atomic across
      shelves: while one call looks up or stores data in several shelves, other calls may change
-     these shelves. `rrcache_store` may even release the lock of a shelf between two of the RRsets
-     that it stores there.
+     these shelves. When `rrcache_store` stores several RRsets in one shelf, it may even release the
+     lock of that shelf between two of them.
    - If a look-up is repeated with the same timestamp, and the name is in lower case, the library
-     may copy the answer from a memo, which is a saved copy of an earlier answer. The library does
-     so only if nothing in the shelf of the name has changed since the library gave that earlier
-     answer. The library keeps memos only of negative answers and of answers with a single RRset. A
-     look-up that is answered from a memo takes no place. The result of this look-up and its effect
-     on the counters are the same as without a memo.
+     may copy the answer from a memo, which is a saved copy of an earlier answer. The library uses a
+     memo only if nothing in the shelf of the name has changed since the earlier answer was
+     returned. The library keeps memos only of negative answers and of answers with a single RRset.
+     A look-up that is answered from a memo takes no place. The result of this look-up and its
+     effect on the counters are the same as without a memo.
    - ThreadSanitizer cannot see the locks in the compiled library. To run a program under
-     ThreadSanitizer, compile the files of lib/ with ThreadSanitizer too, and link them before the
-     shared library. The static library contains the same functions as these files. So if you link
-     the static library instead of the shared one, also pass `-Wl,--allow-multiple-definition`.
-     ThreadSanitizer may still falsely report races in `free`, because it does not see how shelves
-     count the references to data. The line `race_top:free$` in a suppressions file prevents these
-     reports.
+     ThreadSanitizer, compile the files in lib/ with ThreadSanitizer too, and link them before the
+     shared library. If you link the static library instead of the shared one, also pass
+     `-Wl,--allow-multiple-definition`, because the static library contains the same functions as
+     these files. ThreadSanitizer may still falsely report races in `free`, because it does not see
+     how shelves count the references to data. The line `race_top:free$` in a suppressions file
+     prevents these reports.
    - Eviction follows the LRU order. However, a look-up does not always move the entry that it finds
      to the front of this order, because a move changes the shelf. In a shelf that is at least three
      quarters full, by octets or by keys, a look-up moves its entry if more than a quarter of the
      shelf's keys may have been used since the last use of that entry. Otherwise, a look-up moves
-     its entry in only two cases. First, if most of the recent look-ups had to move their entries,
-     the next few look-ups move theirs too. Second, if `exact_recency` is set or histories are being
-     recorded, every look-up moves its entry. docs/RULES.md says which order of eviction a caller
-     can rely on.
+     its entry in only two cases. First, it does so if most of the recent look-ups that took the
+     same place had to move their entries. Second, every look-up moves its entry if `exact_recency`
+     is set or histories are being recorded. docs/RULES.md says which order of eviction a caller can
+     rely on.
 
    Memory
-   - An answer is a copy in the caller's buffer. The copy stays valid after the entries that it came
-     from are evicted and after `rrcache_close`, and does not count toward the limit `octets` of
-     `struct rrcache_config`.
-   - The keys use at most `octets` octets of memory, as `rrcache_sizes` counts them, except while a
-     call stores data, and after an eviction during which malloc failed. Each shelf may use only an
-     equal share of `octets`, even if other shelves use less than their share. A call that stores
-     data in a shelf evicts the least recently used keys of that shelf, if necessary, before it
-     returns. If malloc fails during the eviction, the call still succeeds, and the next call that
-     stores, forgets or sweeps entries of that shelf completes the eviction. `octets` covers only
-     the keys, and an allocator may use more memory for them than is counted. So plan for two and a
-     half times `octets`, and also for the memory that the next item describes. The total is about
-     2.575 times `octets`, plus 4 octets for each key that `keys` allows. SECURITY.md reports the
-     measurements behind the factor of two and a half, and says what was not measured.
+   - An answer is a copy in the caller's buffer. The copy stays valid after the eviction of the
+     entries that it came from, and after `rrcache_close`. Answers do not count toward the limit
+     `octets` of `struct rrcache_config`.
+   - The keys use at most `octets` octets of memory, as `rrcache_sizes` counts them. Their memory
+     can exceed this limit only while a call stores data or after an eviction during which malloc
+     failed. Each shelf may use only an equal share of `octets`, even if other shelves use less than
+     their share. A call that stores data in a shelf evicts the least recently used keys of that
+     shelf, if necessary, before it returns. If malloc fails during the eviction, the call still
+     succeeds, and the next call that stores, forgets or sweeps entries of that shelf completes the
+     eviction. `octets` limits only the memory of the keys, and an allocator may use more memory for
+     them than is counted. Therefore, plan for two and a half times `octets`, and also for the
+     memory that the next item describes. The total is about 2.575 times `octets`, plus 4 octets for
+     each key that `keys` allows. SECURITY.md reports the measurements behind the factor of two and
+     a half, and says what was not measured.
    - In addition, `rrcache_open` allocates the places, the memos, and two filters: one of the names
-     that may be aliases, and one of the names that may have an NXDOMAIN or a failure. All memos
-     together use at most 1/16 of `octets`, and at most about 460 KiB times `readers`. The first
-     filter uses at most about 1/80 of `octets`, and at most 128 KiB for each shelf. The second
-     filter uses 2 to 4 octets for each key that `keys` allows, because its size for each shelf is a
-     power of 2. This size does not depend on `octets`: with the default number of keys, it is 8 MiB
-     in all shelves together. So if `octets` is small, set `keys` too.
-   - A cache has at most 64 shelves of at most 65,536 keys each, so it has at most 4,194,304 keys.
-     An RRset of one address with a short name uses 320 octets, so a cache holds at most about 1.3
-     GB of such RRsets, even if `octets` is larger.
+     that may own a CNAME RRset, and one of the names that may have an NXDOMAIN or a failure. All
+     memos together use at most 1/16 of `octets`, and at most about 460 KiB times `readers`. The
+     first filter uses at most about 1/80 of `octets`, and at most 128 KiB for each shelf. The
+     second filter uses 2 to 4 octets for each key that `keys` allows, because its size for each
+     shelf is a power of 2. The size of the second filter does not depend on `octets`: with the
+     default number of keys, the filter uses 8 MiB in all shelves together. So if `octets` is small,
+     set `keys` too, to reduce the size of the second filter.
+   - A cache has at most 64 shelves with at most 65,536 keys each, and so at most 4,194,304 keys. An
+     RRset of one address record with a short owner name uses 320 octets, so a cache holds at most
+     about 1.3 GB of such RRsets, even if `octets` is larger.
    - The configuration of an open cache cannot be changed. The library returns freed memory to
      malloc, and malloc decides whether to return this memory to the operating system.
    - An RRset that would use more memory than its shelf's share of `octets` is not stored. In tests,
      the largest RRset of a response used 242,208 octets. To let each of 64 shelves store such an
      RRset, set `octets` to at least 16 MiB. If `octets` has to be smaller, use fewer shelves.
    - Look-ups allocate memory only while histories are being recorded (`rrcache_record_all`).
-     `rrcache_next`, `rrcache_stats`, `rrcache_stats_of` and `rrcache_stats_text` never allocate. A
-     call returns RRCACHE_MEMORY if malloc fails, unless the call can do without the memory, as it
-     can during an eviction. After RRCACHE_MEMORY, the contents of the cache are unchanged, with
-     three exceptions: `rrcache_store`, `rrcache_sweep_all` and `rrcache_forget` may have done part
-     of their work.
+     `rrcache_next`, `rrcache_stats`, `rrcache_stats_of` and `rrcache_stats_text` never allocate. If
+     malloc fails during a call, the call returns RRCACHE_MEMORY, unless it can do without the
+     memory, as it can during an eviction. After RRCACHE_MEMORY, the contents of the cache are
+     unchanged, with three exceptions: `rrcache_store`, `rrcache_sweep_all` and `rrcache_forget` may
+     have done part of their work.
 
    Timestamps
    - A timestamp (`moment`) is a number of seconds, at most 2^40. The timestamp 0 means the current
@@ -133,8 +136,8 @@
      functions of rrcache_shelf.h, a limit of 0 or a seed of zeros is an error.
 
    ABI
-   - The library reads or writes every struct of this header, so each of these structs keeps its
-     size and its fields in all versions with the same soname. */
+   - Each struct of this header keeps its size and its fields in all versions with the same soname,
+     because the library reads or writes these structs. */
 #ifndef RRCACHE_H
 #define RRCACHE_H
 
@@ -142,7 +145,7 @@
 
 /* Each function declaration of this header begins with RRCACHE_API. bin/build-c exports these
    functions, and tools/manual.py makes man pages from their comments. RRCACHE_API expands to
-   nothing, because a list of names, not a visibility attribute, selects the exports. */
+   nothing, because the exports are selected by a list of names, not by a visibility attribute. */
 #define RRCACHE_API
 
 #ifdef __cplusplus
@@ -162,8 +165,9 @@ struct rrcache_config {
     uint64_t readers;   /* the number of places of a shelf, which is the maximum number of threads
                            that can look up names in the shelf simultaneously: 1 to 64, or 0 for the
                            number of processors or 16, whichever is smaller */
-    uint64_t max_stale; /* the number of seconds for which an RRset may be served past its TTL: 0 to
-                           604,800, which is a week. RFC 8767 section 5 suggests 1 to 3 days */
+    uint64_t max_stale; /* the number of seconds for which an RRset may be served after its TTL has
+                           expired: 0 to 604,800 (one week). RFC 8767 section 5 suggests 1 to 3
+                           days */
     struct rrcache_limits limits; /* the limits for responses; for a field that is 0, the default in
                                      RRCACHE_LIMITS applies */
     uint8_t seed[16];             /* 16 secret random octets, or zeros for random octets from the
@@ -190,19 +194,18 @@ enum { RRCACHE_MOST_ALIASES = 16 };
 /* The usual size of the buffer for an answer. A call whose buffer is too small returns
    RRCACHE_SMALL. The usual size is large enough for every answer from a look-up, with two
    exceptions. First, a server may have sent a CNAME RRset of several records, which RFC 2181
-   section 10.1 does not allow. Second, the caller itself may have stored a large RRset. For an
-   answer from a look-up, a buffer of 1 MiB is always large enough if all RRsets of the answer were
-   received in responses. An answer from `rrcache_store` may need more than RRCACHE_ANSWER_OCTETS in
-   two more cases. First, the type of the query may be ANY, or a type that is not kept, such as
-   RRSIG. Second, an RRset may have more than 16,384 octets of rdata. If an answer from
-   `rrcache_store` does not fit, the data are still stored, and the answer contains the RRsets that
-   fit. */
+   section 10.1 forbids. Second, the caller itself may have stored a large RRset. For an answer from
+   a look-up, a buffer of 1 MiB is always large enough if all RRsets of the answer were received in
+   responses. An answer from `rrcache_store` may need more than RRCACHE_ANSWER_OCTETS in two more
+   cases. First, the type of the query may be ANY or a type that is not kept, such as RRSIG. Second,
+   an RRset may have more than 16,384 octets of rdata. If an answer from `rrcache_store` does not
+   fit, the data are still stored, and the answer contains the RRsets that fit. */
 enum { RRCACHE_ANSWER_OCTETS = 65536 };
 
 /* The answer to a question: a list of RRsets, which `rrcache_next` returns one by one, and a kind.
-   An answer has at most RRCACHE_MOST_ALIASES + 1 RRsets, and up to RRCACHE_MOST_ALIASES more if it
-   includes DNAME RRsets. If the type of the query is ANY or is not kept, an answer from
-   `rrcache_store` may have even more RRsets. The caller sets `buffer` and its size `room`, sets
+   An answer without DNAME RRsets has at most RRCACHE_MOST_ALIASES + 1 RRsets. DNAME RRsets can add
+   up to RRCACHE_MOST_ALIASES more. An answer from `rrcache_store` may have even more RRsets if the
+   type of the query is ANY or is not kept. The caller sets `buffer` and its size `room`, sets
    `with_dnames` to get DNAME RRsets, and initializes the other fields to 0. */
 struct rrcache_answer {
     uint8_t *buffer;
@@ -232,8 +235,8 @@ struct rrcache_answer {
 };
 
 /* An RRset of an answer. The field `set` has the form that `rrcache_compose_response` requires. In
-   a negative answer, the last RRset is the SOA record, which belongs in the authority section.
-   Initialize this struct to zeros. */
+   a negative answer, the last RRset is the SOA record, which belongs in the authority section of a
+   response. Initialize this struct to zeros. */
 struct rrcache_rrset {
     struct rrcache_parsed_set set; /* the RRset. `ttl` is the TTL for the client: the remaining TTL,
                                       or 30 if the RRset is stale. Each RRset of a CNAME chain has
@@ -289,14 +292,14 @@ enum { RRCACHE_STATS_OCTETS = 384 };
    counted from 0. The callback must process all these octets, and must return 0 to continue or
    nonzero to stop. `state` is the pointer that the caller passed together with the callback. During
    the callback, the library holds no lock of a shelf, but it holds the lock that guards the start
-   and the end of recording. If the callback made a call that needs this lock, that call would never
-   return. So the callback must not call any function on this cache. The callback must return
+   and the end of recording. If the callback called a function that needs this lock, the call would
+   never return. So the callback must not call any function on this cache. The callback must return
    normally: it must not call `longjmp` or throw a C++ exception, and its thread must not be
    canceled before it returns. */
 typedef int (*rrcache_shelf_sink)(void *state, uint64_t shelf, const void *octets, size_t size);
 
-/* Opens a cache, and stores a pointer to the cache in `*cache`. A null `config` means a
-   configuration of zeros. Close the cache with `rrcache_close`.
+/* Opens a cache, and stores a pointer to it in `*cache`. A null `config` means a configuration of
+   zeros. Close the cache with `rrcache_close`.
 
    Returns RRCACHE_BAD_RULES if `octets`, `keys`, `shelves`, `readers` or `max_stale` is out of
    range, RRCACHE_BAD_LIMITS if a limit is out of range, and RRCACHE_BAD_SEED if `seed` is all zeros
@@ -310,18 +313,18 @@ RRCACHE_API enum rrcache_status rrcache_open(struct rrcache **cache,
 RRCACHE_API void rrcache_close(struct rrcache *cache);
 
 /* Looks up the answer to a question. The answer contains the CNAME RRsets of the CNAME chain that
-   begins at the name of the question, and the reply for the name at the end of the chain: an RRset
-   of the question's type, a negative answer (RRCACHE_NODATA or RRCACHE_NXDOMAIN), or a miss
-   (RRCACHE_MISS or RRCACHE_FAILED). Even if the reply is a miss, the answer contains the CNAME
-   RRsets. At each name, the rule described at `rrcache_ask_alias` chooses between a CNAME record
-   and data of the type (RFC 1034 section 4.3.2). For a question of type CNAME, ANY, NSEC or RRSIG,
-   no CNAME record is followed.
+   begins at the name of the question, and the reply for the name at the end of the chain. This
+   reply is an RRset of the question's type, a negative answer (RRCACHE_NODATA or RRCACHE_NXDOMAIN),
+   or a miss (RRCACHE_MISS or RRCACHE_FAILED). Even if the reply is a miss, the answer contains the
+   CNAME RRsets. At each name of the chain, the rule described at `rrcache_ask_alias` chooses
+   between a CNAME record and data of the type (RFC 1034 section 4.3.2). For a question of type
+   CNAME, ANY, NSEC or RRSIG, no CNAME record is followed.
 
    With the mode RRCACHE_STALE_IF_FAILED, stale data are acceptable for a name of the chain if
    resolution of the type has failed recently for that name (RFC 8767 section 5). If resolution of
    the question itself has failed recently, this failure has two effects. First, with
    RRCACHE_STALE_IF_FAILED, stale data are acceptable for every name of the chain. Second, in every
-   mode, a miss at the end of the chain is RRCACHE_FAILED; if resolution has failed recently for
+   mode, a miss at the end of the chain is RRCACHE_FAILED. If resolution has failed recently for
    `end` too, `retry_from` of the answer is the timestamp from which both failures have expired. The
    failure of the question has neither effect if the look-up follows a CNAME record that was stored
    for the question's name after the failure. docs/RULES.md, "Serving stale data", describes the
@@ -343,44 +346,45 @@ RRCACHE_API enum rrcache_status rrcache_lookup(struct rrcache *cache,
 /* Looks up the deepest unexpired NS RRset at or above a name. A resolver can start resolution at
    the servers that this RRset names (RFC 1034 section 5.3.3, RFC 9156 section 2). The answer
    contains this RRset, and `end` is its owner. If there is no such RRset, `kind` is RRCACHE_MISS.
-   An NS RRset is skipped while an NXDOMAIN of its owner is the governing entry (docs/RULES.md,
+   The call skips an NS RRset while an NXDOMAIN of its owner is the governing entry (docs/RULES.md,
    "What an ask answers"). The fields `rtype`, `mode` and `takes_glue` of the request are ignored.
    The DS RRset of a zone is in the parent zone (RFC 4035 section 2.4), so for a question of type
    DS, pass the name without its first label. If the servers that the NS RRset names cannot be used,
    for example because their addresses are no longer cached, pass a copy of `end` without its first
-   label to find the next delegation above. An expired NS RRset is found only by `rrcache_lookup`
-   with type NS and a mode that allows stale data, and with `takes_glue` if the RRset came from a
-   referral. The errors are those of `rrcache_lookup`, except RRCACHE_BAD_CHOICE. */
+   label to find the next delegation above. Only `rrcache_lookup` finds an expired NS RRset, with
+   type NS and a mode that allows stale data. If the RRset came from a referral, `takes_glue` must
+   be set too. The errors are those of `rrcache_lookup`, except RRCACHE_BAD_CHOICE. */
 RRCACHE_API enum rrcache_status rrcache_lookup_delegation(struct rrcache *cache,
                                                           const struct rrcache_request *request,
                                                           struct rrcache_answer *answer);
 
 /* Gets the next RRset of an answer, or the first RRset if `*rrset` is all zeros. Returns true if
-   there is such an RRset. At the end of the answer, returns false and sets `*rrset` to zeros again.
-   The pointers in `rrset` point into the buffer of the answer. */
+   the answer has this RRset. At the end of the answer, returns false and sets `*rrset` to zeros
+   again. The pointers in `rrset` point into the buffer of the answer. */
 RRCACHE_API bool rrcache_next(const struct rrcache_answer *answer, struct rrcache_rrset *rrset);
 
 /* Reads the response to a query as `rrcache_read_response` does, and stores the data that are
    relevant to the query: RRsets, a negative answer or a failure. Each of these is stored in the
-   shelf of its name. An RRset or a negative answer that would use more memory than one shelf may
-   use is left out. If a limit of `response` is 0, the corresponding limit of the cache applies.
+   shelf of its name. The call leaves out an RRset or a negative answer that would use more memory
+   than one shelf may use. If a limit of `response` is 0, the corresponding limit of the cache
+   applies.
 
    Returns RRCACHE_OTHER_QUERY if the octets do not answer the query: the caller then has to drop
-   them and keep waiting (RFC 5452 section 9.1). RRCACHE_NO_QUESTION means that the server has
-   failed. RRCACHE_BAD_MESSAGE means the same, unless TC (the bit 0x02 of the third octet) is set. A
-   call that returns one of these three errors stores nothing. A response with an RCODE other than
-   NOERROR and NXDOMAIN, such as SERVFAIL, is stored as a failure of its question, unless the type
-   of the question is not kept. So pass such a response only when no other server is left to query.
-   The RCODE is in the low four bits of the fourth octet of the response. The call stores nothing
-   from a truncated response (TC set), and returns RRCACHE_BAD_MESSAGE if such a response ends
-   inside a record. After any truncated response, send the query again over TCP.
+   these octets and keep waiting (RFC 5452 section 9.1). RRCACHE_NO_QUESTION means that the server
+   has failed. RRCACHE_BAD_MESSAGE means the same, unless TC (the bit 0x02 of the third octet) is
+   set. A call that returns one of these three errors stores nothing. A response with an RCODE other
+   than NOERROR and NXDOMAIN, such as SERVFAIL, is stored as a failure of its question if the type
+   of the question is kept. So pass a response with such an RCODE only when no other server is left
+   to query. The RCODE is in the low four bits of the fourth octet of the response. The call stores
+   nothing from a truncated response (TC set), and returns RRCACHE_BAD_MESSAGE if such a response
+   ends inside a record. After any truncated response, send the query again over TCP.
 
-   To read a response without storing it, call `rrcache_read_response` with a `struct rrcache_parts`
-   that has one part and any seed other than zeros, and with limits that are not 0. That call
-   compares the response with the query as `rrcache_store` does. Then `rrcache_tell_response`
-   returns the kind and RCODE, and `rrcache_tell_offer` returns each relevant RRset, even one with
-   TTL 0. In this way, a resolver with several servers to query can detect the failure of one of
-   them without storing a failure.
+   To read a response without storing it, call `rrcache_read_response` with nonzero limits and with
+   a `struct rrcache_parts` that has one part and a seed other than zeros. That call compares the
+   response with the query as `rrcache_store` does. Then `rrcache_tell_response` returns the kind
+   and RCODE, and `rrcache_tell_offer` returns each relevant RRset, even one with TTL 0. In this
+   way, a resolver with several servers to query can detect the failure of one of them without
+   storing a failure.
 
    The RRsets of a referral are stored, but are not in `answer`. `name` of `report` is the zone of
    the referral, `rrcache_lookup_delegation` returns the NS RRset, and look-ups with `takes_glue`
@@ -388,24 +392,26 @@ RRCACHE_API bool rrcache_next(const struct rrcache_answer *answer, struct rrcach
    them. To get them, read the referral without storing it, as described above. An NS RRset with
    unequal TTLs is left out, unless `lowest_ttl` is set. The NS RRset of a referral has the lowest
    rank. If the name of the zone was looked up before the zone was delegated, the cache may hold an
-   NXDOMAIN for that name, or a NODATA for that name and type NS. As long as that negative answer is
-   unexpired, `rrcache_lookup_delegation` finds only the NS RRset of a zone above the zone of the
+   NXDOMAIN for that name, or a NODATA for that name and type NS. Until that negative answer
+   expires, `rrcache_lookup_delegation` finds only the NS RRset of a zone above the zone of the
    referral, or none. If `rrcache_lookup_delegation` finds no NS RRset below the zone whose server
    was queried, call `rrcache_forget` with type NS for the zone of the referral, and store the
    response again.
 
-   `answer` may be null. Otherwise, the call fills `answer` with the answer that the response itself
-   contains, including data that are not stored: data with TTL 0, data that are too large, and data
-   of lower rank than the cached data. So a waiting client gets the data that the server sent. If AA
-   is clear and `lowest_ttl` is not set, an RRset with unequal TTLs is neither stored nor returned
-   in `answer`. If that RRset contains the data of the query's type, or a CNAME record that leads to
-   these data, `kind` of `answer` is RRCACHE_MISS. For a query of type ANY, `answer` contains all
-   RRsets that the answer section has for the name, except those that are left out because their
-   TTLs are unequal. However, a look-up of type ANY never finds the RRsets that were stored, because
-   each RRset is stored under its own type. If the response is stored as a failure, `kind` of
-   `answer` is RRCACHE_FAILED. To fill `answer`, the call follows at most RRCACHE_MOST_ALIASES CNAME
-   records, and returns RRsets of any size. The limits for stored data are lower: fewer CNAME
-   records are followed, and only smaller RRsets are relevant. In `answer`, rdata of types A and
+   `answer` may be null. If it is not null, the call fills `answer` with the answer that the
+   response itself contains, including data that are not stored: data with TTL 0, data that are too
+   large, and data of lower rank than the cached data. In this way, a waiting client gets the data
+   that the server sent. If AA is clear and `lowest_ttl` is not set, an RRset with unequal TTLs is
+   neither stored nor returned in `answer`. If that RRset contains the data of the query's type, or
+   a CNAME record that leads to these data, `kind` of `answer` is RRCACHE_MISS. For a query of type
+   ANY, `answer` contains all RRsets that the answer section has for the name of the query, except
+   those that are left out because their TTLs are unequal. However, a look-up of type ANY does not
+   find these RRsets even if they were stored, because each RRset is stored under its own type. If
+   the response is stored as a failure, `kind` of `answer` is RRCACHE_FAILED.
+
+   To fill `answer`, the call follows at most RRCACHE_MOST_ALIASES CNAME records, and returns RRsets
+   of any size. The limits for stored data are lower: at most 11 CNAME records are followed, and an
+   RRset with more than 16,384 octets of rdata is not relevant. In `answer`, rdata of types A and
    AAAA may have any length. Each record of a type that is not kept, such as NAPTR, is returned as a
    separate RRset. For a query of such a type, `kind` is RRCACHE_NODATA if an SOA record of the
    response denies that data of the type exist. If the query is of type NSEC or RRSIG, and the
@@ -414,10 +420,10 @@ RRCACHE_API bool rrcache_next(const struct rrcache_answer *answer, struct rrcach
    RRCACHE_RESPONSE_ALIAS. If only `report` contains the result, as for a negative response without
    an SOA record, `kind` of `answer` is RRCACHE_MISS.
 
-   If the response contains only the beginning of a CNAME chain, its kind is RRCACHE_RESPONSE_ALIAS,
-   and `kind` of `answer` is RRCACHE_MISS. Keep the CNAME RRsets of this answer, and look up `end`
-   next. Do not look up the name of the query again: if a CNAME record of the chain has TTL 0, it is
-   not stored, and the look-up misses again.
+   If the response contains only the beginning of a CNAME chain, the kind of the response is
+   RRCACHE_RESPONSE_ALIAS, and `kind` of `answer` is RRCACHE_MISS. Keep the CNAME RRsets of this
+   answer, and look up `end` next. Do not look up the name of the query again: if a CNAME record of
+   the chain has TTL 0, the record is not stored, and the look-up misses again.
 
    Check `kind` of the answer first. Check the kind of the response only if the answer is a miss,
    because records of a type that is not kept do not affect the kind of a response. If the query is
@@ -462,7 +468,7 @@ RRCACHE_API enum rrcache_status rrcache_store_failure(struct rrcache *cache,
 /* Removes the cached data of a name, a class and a type: the RRset or NODATA, the failure, and the
    NXDOMAIN of the name. With type ANY (255), the call removes the data of every type. To do so, the
    call tries each type in turn, which takes about 10 milliseconds, and releases the lock of the
-   shelf after every 256 types. Data that other threads store for the name in the meantime may
+   shelf after every 256 types. Data that other threads store for the name during the call may
    remain. If a shelf has never been swept, the first call that removes a failure from it takes as
    long as a first sweep, which visits all keys of the shelf. The fields `mode` and `takes_glue` of
    the request are ignored. No call removes the data of all names below a name: docs/RULES.md,
@@ -475,17 +481,17 @@ RRCACHE_API enum rrcache_status rrcache_store_failure(struct rrcache *cache,
 RRCACHE_API enum rrcache_status rrcache_forget(struct rrcache *cache,
                                                const struct rrcache_request *request);
 
-/* Removes fully expired keys until at least `most` keys have been removed or no such key is left. A
-   key is fully expired if its entry can answer no question at `moment`, not even as stale data.
-   `most` must be at least 1. The call writes to `swept` how many keys it removed; `is_done` of
-   `swept` is 1 if no fully expired key is left, and 0 if such a key may be left. A sweep continues
-   where the previous sweep ended. The call releases the locks of a shelf after every 64 keys, and
-   lets threads that wait for these locks go first. There are two exceptions: the call does not
+/* Removes fully expired keys until at least `most` keys have been removed or no fully expired key
+   is left. A key is fully expired if its entry can answer no question at `moment`, not even as
+   stale data. `most` must be at least 1. The call writes to `swept` how many keys it removed;
+   `is_done` of `swept` is 1 if no fully expired key is left, and 0 if such a key may be left. A
+   sweep continues where the previous sweep ended. The call releases the locks of a shelf after
+   every 64 keys, and lets threads that wait for these locks go first. However, the call does not
    release the locks while it removes keys that expire in the same second, or while the first sweep
-   of a shelf visits all its keys. A caller need not sweep, because eviction makes room. A sweep at
-   the timestamp 2^40 removes each key whose entry has a timestamp below 2^40 - 2^32. So if `most`
-   is large enough, a caller with a clock such as CLOCK_BOOTTIME can empty the cache in this way.
-   Later calls may pass smaller timestamps.
+   of a shelf visits all keys of the shelf. Sweeps are optional, because eviction makes room. A
+   sweep at the timestamp 2^40 removes each key whose entry has a timestamp below 2^40 - 2^32. So a
+   caller with a clock such as CLOCK_BOOTTIME can empty the cache in this way, if `most` is at least
+   the number of keys. Later calls may pass smaller timestamps.
 
    Returns RRCACHE_BAD_RULES if `most` is 0. May also return RRCACHE_MOMENT_TOO_LARGE,
    RRCACHE_HISTORY_FULL or RRCACHE_MEMORY; `swept` then contains the number of keys that were
@@ -530,11 +536,11 @@ RRCACHE_API enum rrcache_status rrcache_stats_text(const struct rrcache_stats *s
 RRCACHE_API enum rrcache_status rrcache_record_all(struct rrcache *cache);
 
 /* Stops recording, and writes the history of each shelf as text (an archive) to `sink`, one shelf
-   after another. Each shelf continues to record until the call writes its history. So while a slow
-   sink processes the archives of earlier shelves, new events of later shelves use more and more
-   memory. If nothing is being recorded, the call writes nothing. Returns RRCACHE_SINK if the sink
-   returns nonzero. May also return RRCACHE_HISTORY_FULL or RRCACHE_MEMORY. After any of these
-   errors, recording has stopped, and the histories that were not written have been dropped. */
+   after another. Each shelf continues to record until the call reaches it. So while a slow sink
+   processes the archives of earlier shelves, new events of later shelves use more and more memory.
+   If nothing is being recorded, the call writes nothing. Returns RRCACHE_SINK if the sink returns
+   nonzero. May also return RRCACHE_HISTORY_FULL or RRCACHE_MEMORY. After any of these errors,
+   recording has stopped, and the histories that were not written have been dropped. */
 RRCACHE_API enum rrcache_status rrcache_stop_recording_all(struct rrcache *cache,
                                                            rrcache_shelf_sink sink, void *state);
 
