@@ -59,9 +59,10 @@ def main(args):
     by_python = best("ask, through Python", args.runs, partial(python_rate, args.calls // 20))
     write_section(
         args, TITLE,
-        ". The rates are millions of calls per second by threads in C (`bench/c/c_threads.c`). "
-        f"Each rate is the best of {args.runs} runs of {args.calls:,} calls on 16 shelves with "
-        f"16,384 names. In the rows \"{SHELVES['own']}\", each thread has 16 shelves of its own. "
+        ". The rates are the millions of calls per second that threads in C make "
+        f"(`bench/c/c_threads.c`). Each rate is the best of {args.runs} runs of {args.calls:,} "
+        f"calls on 16 shelves with 16,384 names. In the rows \"{SHELVES['own']}\", each thread "
+        "has 16 shelves of its own. "
         f"The last column is the rate of {of_threads(args.threads[-1])} divided by the rate of "
         f"{of_threads(args.threads[0])}.",
         table(["What", "Shelves", *map(of_threads, args.threads),

@@ -193,11 +193,11 @@ def main(args):
         f"{args.attack:.0f} names a second; a hostile server answers the queries for these names. "
         "The rows differ in the names that the other client asks for and in the answers of the "
         "server; `bench/run latency --help` describes the rows. The first three columns of numbers "
-        "are the waits of the client that asks for cached names, in milliseconds: the median, the "
-        "99th percentile and the longest. `missing` is the number of answers that this client did "
-        "not get. `queries` is the number of queries from the other client, and `fetched` is the "
-        "number of these queries that were answered after a fetch. The last two columns are the "
-        "processor time of the forwarder in seconds, and the growth of its memory in MB. The "
-        "hostile server uses processor time too, so compare the other rows with `harmless`, not "
-        "with `none`.",
+        "are the waiting times of the client that asks for cached names, in milliseconds: the "
+        "median, the 99th percentile and the longest. `missing` is the number of answers that this "
+        "client did not get. `queries` is the number of queries from the other client, and "
+        "`fetched` is the number of these queries that were answered after a fetch. The last two "
+        "columns are the processor time of the forwarder in seconds, and the growth of its memory "
+        "in MB. The hostile server uses processor time too, so compare the other rows with "
+        "`harmless`, not with `none`.",
         table(HEAD, rows))

@@ -49,11 +49,11 @@ def main(args):
         slow += [name] if read > MOST * whole else []
     write_section(
         args, TITLE,
-        f". Each time is the least of {args.runs} runs, in microseconds of processor time. Each "
+        f". Each time is the shortest of {args.runs} runs, in microseconds of processor time. Each "
         "message is offered in three ways: to one shelf; to 16 shelves, with one reading for all "
         "shelves (`rrcache_read_message_unchecked` and `rrcache_offer_read`); and to 16 shelves, "
         "with a new reading for each shelf (`rrcache_offer_part_unchecked`). A keyed hash of each "
-        "name chooses the shelf of the name, and a share consists of the offers for one shelf. The "
+        "name determines the shelf of the name. A share consists of the offers for one shelf. The "
         "last column is the time to make the offers of the share that takes longest; the lock of "
         "that share's shelf is held for this time. The message `usual` is an answer with the name "
         "servers of the zone and their addresses. The other messages are hostile "

@@ -41,8 +41,8 @@ ARCHIVES = ["apt-get", "indextargets", "Created-By: Packages", "Codename: bookwo
             "deb-src [signed-by=/usr/share/keyrings/debian-archive-keyring.gpg]"
             " $(REPO_URI) $(RELEASE) $(COMPONENT)"]
 OF_CACHE = filled("The first table is for `struct rrcache` with its own locks. The look-ups of a"
-                  " `struct rrcache` follow aliases, but the asks in the tables for shelves do not."
-                  " In all these runs, however, no name is an alias.")
+                  " `struct rrcache` follow aliases, but asks on shelves, as in the later tables,"
+                  " do not. In all these runs, however, no name is an alias.")
 # What valgrind counts of a run, and the caches of the processor that it simulates: their octets,
 # ways and the octets of a line.
 EVENTS = ("I +refs", "D1 +misses", "LLd misses")
@@ -51,9 +51,9 @@ SIMULATED = ("--cache-sim=yes", "--D1=32768,8,64", "--LL=1048576,16,64",
 FEW, MANY = 20_000, 120_000
 OF_COUNTS = filled(
     "The next table shows how many instructions a call on one thread takes, and how often the call "
-    "misses the first-level and the second-level cache. The counts are those of valgrind, which "
-    "simulates a processor with 32 KiB of first-level cache for data and 1 MiB of second-level "
-    "cache.")
+    "misses the first-level and the second-level cache of the processor. The counts are those of "
+    "valgrind, which simulates a processor with 32 KiB of first-level cache for data and 1 MiB of "
+    "second-level cache.")
 OF_GROWTH = (
     "The next table shows the rate of {0} threads as a multiple of the rate of one thread. *One "
     "cache*: all threads use one cache. *Own shards*: they use one cache, but no two threads use "
@@ -65,24 +65,25 @@ BOUNDS = filled(
     "long as nothing changes in the shelf of this name. Zipf-distributed asks take fewer "
     "instructions than with unbound's cache, but miss the second-level cache about as often. Puts, "
     "and asks in the row \"asks that hit\", take more instructions than with unbound's cache, and "
-    "spend most of these in proved code. A look-up folds the name, hashes it under a secret seed, "
-    "and then peeks. A store reads and hashes the name a second time, checks the rdata, and counts "
-    "the octets of what it stores and evicts. A store that evicts also allocates three blocks of "
-    "memory and frees three, and a store that replaces allocates two and frees two. A store would "
-    "take fewer instructions if the proved call accepted the name that was already folded and "
-    "hashed. The table above shows what limits the speed of several threads. (Numbers in it that "
-    "exceed the number of threads show how much the speed of a virtual machine varies.) The rate "
-    "of asks that hit grows in one cache as it does with own caches, so this table shows no cost "
-    "of sharing a cache for these asks. The rates of puts grow less in one cache than on own "
-    "shards. So what limits puts is that threads change the same shards: the threads wait for "
-    "locks, load cache lines that another processor has changed, and free memory that another "
-    "thread allocated. With jemalloc instead of glibc's malloc, the rates of puts grow about as "
-    "much, so the allocator is not the main cost. At any time, the three other threads use at most "
-    "3 of the 64 shards, so a put should find its shard locked in at most one of 20 cases. Most of "
-    "the cost is therefore probably due to cache lines. Neither of these two conclusions was "
-    "measured. A put misses the first-level cache 25 to 29 times with rrcache, and 15 times with "
-    "unbound's cache. So a put of rrcache uses more cache lines, and each of them may have to come "
-    "from another processor.")
+    "most of their instructions are in proved code. A look-up folds the name, hashes it under a "
+    "secret seed, and then peeks. A store reads and hashes the name a second time, checks the "
+    "rdata, and counts the octets of what it stores and evicts. A store that evicts also allocates "
+    "three blocks of memory and frees three, and a store that replaces allocates two and frees "
+    "two. A store would take fewer instructions if the proved call accepted a name that is already "
+    "folded and hashed. The preceding table shows what limits the speed of several threads. "
+    "(Numbers in it that exceed the number of threads show how much the speed of a virtual machine "
+    "varies.) The rate of asks that hit grows at least as much in one cache as with own caches, so "
+    "this table shows no cost of sharing a cache for these asks. The rates of puts grow less in "
+    "one cache than on own shards. So the growth of these rates is limited because several threads "
+    "change the same shards: these threads wait for locks, load cache lines that another processor "
+    "has changed, and free memory that another thread allocated. With jemalloc instead of glibc's "
+    "malloc, the rates of puts grow about as much, so the allocator is not the main cost. At any "
+    "time, the three other threads use at most 3 of the 64 shards, so a put should find its shard "
+    "locked in at most one of 20 cases. Most of the cost is therefore probably due to cache lines. "
+    "Neither this cost nor the number of puts that find their shard locked was measured. A put "
+    "misses the first-level cache 25 to 29 times with rrcache, and 15 times with unbound's cache. "
+    "So a put of rrcache uses more cache lines, and each of them may have to come from another "
+    "processor.")
 KINDS = {"hit": "asks that hit", "zipf": "Zipf-distributed asks", "hot": "asks for one name",
          "replace": "puts that replace", "evict": "puts that evict"}
 # How tall the picture is, how tall its highest bar, and where the bars stand.
@@ -276,7 +277,7 @@ def main(args):
         ". rrcache and unbound's RRset cache each had 64 shards. Both were used with "
         f"{args.names:,} names that had one A record each. Each time and each rate is the ratio of "
         f"two medians: one of {args.runs} runs of rrcache, and one of {args.runs} runs of "
-        f"unbound's cache. Each run had {args.calls:,} calls, and the runs of the two caches "
+        f"unbound's cache. Each run made {args.calls:,} calls, and the runs of the two caches "
         "alternated. "
         "Time is the processor time of a call as a multiple of the processor time of a call of "
         "unbound's cache, so lower is better. Rate is the number of calls per second of elapsed "
