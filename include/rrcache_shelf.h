@@ -88,9 +88,9 @@
      such as `rrcache_room`. RRCACHE_DONE is 0, and every other status is an error. No error
      terminates the process.
    - For the functions of this header, 0 is not a valid purpose, mode, class, trust, kind, section,
-     seed or limit. So if the caller forgets to set a field that holds one of these values, a call
-     that uses the field returns an error. For the functions of rrcache.h, a seed or a limit of 0
-     means the default.
+     seed or limit. So if the caller leaves such a field 0, for example in a designated initializer,
+     a call that uses the field returns an error. For the functions of rrcache.h, a seed or a limit
+     of 0 means the default.
    - If a call fails, neither the history of the shelf nor its replies change, with five exceptions:
      `rrcache_offer_read`, `rrcache_offer_message_unchecked`, `rrcache_offer_part_unchecked`,
      `rrcache_sweep_some` and `rrcache_trim`. Each of these functions performs several steps
@@ -463,19 +463,20 @@ enum rrcache_response_kind {
                                       there are data: look up that name, and send a query for it if
                                       the look-up misses */
     RRCACHE_RESPONSE_FAILURE = 7,  /* the RCODE is neither NOERROR nor NXDOMAIN */
-    RRCACHE_RESPONSE_UNUSABLE = 8  /* none of the kinds above. For example, TC is set, the opcode is
-                                      not QUERY, the class of the question is not kept, or the name
-                                      of the question is out of bailiwick. A response also has this
-                                      kind if the CNAME chain is a loop or has more than 16 records,
-                                      or if the RCODE is NXDOMAIN although the answer section has a
-                                      record of the name (but none of the type). Another example is
-                                      a response that has no data, does not deny that there are
-                                      data, and is not a referral. A server that does not serve the
-                                      zone may send such a response. A response with AA set is not a
-                                      referral, even if it has NS records whose owner is below the
-                                      zone. Data of a type that is not kept are skipped. So for a
-                                      question of any such type other than ANY, a NOERROR response
-                                      has this kind unless it is a referral or an alias */
+    RRCACHE_RESPONSE_UNUSABLE = 8  /* none of the kinds above. For example, a response has this
+                                      kind if TC is set, if the opcode is not QUERY, if the class of
+                                      the question is not kept, or if the name of the question is
+                                      out of bailiwick. It also has this kind if the CNAME chain is
+                                      a loop or has more than 16 records, or if the RCODE is
+                                      NXDOMAIN although the answer section has a record of the name
+                                      (but none of the type). Another example is a response that has
+                                      no data, does not deny that there are data, and is not a
+                                      referral. A server that does not serve the zone may send such
+                                      a response. A response with AA set is not a referral, even if
+                                      it has NS records whose owner is below the zone. Data of a
+                                      type that is not kept are skipped. So for a question of any
+                                      such type other than ANY, a NOERROR response has this kind
+                                      unless it is a referral or an alias */
 };
 
 /* The reason why octets cannot be read as a response (`rrcache_fault`). */
@@ -1976,8 +1977,9 @@ static inline enum rrcache_status rrcache_peek(const struct rrcache_shelf *shelf
    with a CNAME record may have NSEC and RRSIG records of its own (RFC 4035 section 2.5).
 
    If the reply is the CNAME record, the resolver then asks for the target of the record, under the
-   lock of the target's shelf. The target is the name in the first rdata. The resolver ignores any
-   further rdata, because a name may have only one CNAME record (RFC 2181 section 10.1).
+   lock of the target's shelf. If the RRset has several CNAME records, the target is the name in the
+   first one. The resolver ignores the others, because a name may have only one CNAME record (RFC
+   2181 section 10.1).
 
    A failure belongs to the name and type of the question. So with RRCACHE_STALE_IF_FAILED, an
    expired CNAME record may be returned as a stale answer only if the shelf holds a recent failure
