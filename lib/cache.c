@@ -204,7 +204,7 @@ static uint64_t oldest_left(const struct rrcache *cache, const struct rrcache_us
 
 /* A trim may remove failures with TTL 0 that it does not count. So there may be fewer keys than are
    noted here, until the next call. The exact number of keys matters only if it may be the
-   maximum. */
+   maximum. A trim that fails does not report what it has removed. */
 void settle(const struct rrcache *cache, struct part *part, uint64_t moment)
 {
     const struct rrcache_trim_to trim = {
@@ -216,13 +216,14 @@ void settle(const struct rrcache *cache, struct part *part, uint64_t moment)
     struct rrcache_usage usage = {0};
     rrcache_sizes(&part->shelf, &usage);
     if (usage.octets > cache->most_octets) {
+        uint64_t before = usage.keys;
         bool is_done = rrcache_trim(&part->shelf, &trim, &trimmed) == RRCACHE_DONE;
         usage.keys -= trimmed.removed;
         if (!is_done || usage.keys >= cache->most_keys)
             rrcache_sizes(&part->shelf, &usage);
         else
             usage.octets = trimmed.octets;
-        part->evicted += trimmed.removed;
+        part->evicted += is_done ? trimmed.removed : before - usage.keys;
     }
     part->keys = usage.keys;
     renew_owners(part);

@@ -4061,6 +4061,49 @@ static void test_refused_room(void)
     EXPECT(met > 0);
 }
 
+/* Stores an RRset of 60 addresses in a full cache that records, with one allocation refused, and
+   notes whether the eviction ended early. Returns whether an allocation was refused. */
+static bool evict_refused(int filled, long refused, bool *ended_early)
+{
+    struct rrcache_config config = config_of(1);
+    uint8_t data[60 * sizeof DATUM];
+    struct wire owner = wire_of("many.example");
+    uint32_t outcome;
+    config.octets = 65536;
+    struct rrcache *cache = open_by(&config);
+    NEED(rrcache_record_all(cache) == RRCACHE_DONE);
+    for (int i = 0; i < filled; i++)
+        keep(cache, link_of(i), 300);
+    for (size_t i = 0; i < 60; i++) {
+        memcpy(data + i * sizeof DATUM, DATUM, sizeof DATUM);
+        data[i * sizeof DATUM + 5] = (uint8_t)i;
+    }
+    const struct rrcache_set set = set_of(&owner, A, 300, OF(data));
+    granted = refused;
+    rrcache_store_set(cache, &set, &outcome);
+    bool is_refused = granted < 0;
+    granted = -1;
+    const struct rrcache_stats stats = stats_of(cache);
+    EXPECT(stats.keys + stats.evicted == stats.kept);
+    *ended_early |= stats.octets > config.octets;
+    rrcache_close(cache);
+    return is_refused;
+}
+
+/* Each key that is evicted is counted, even if the eviction ends early. The list of events grows
+   from time to time, so one of these evictions meets a refusal after it has begun. */
+static void test_refused_evictions(void)
+{
+    bool ended_early = false;
+    for (int filled = 210; filled < 270; filled += 4) {
+        long refused = 0;
+        while (refused < 100 && evict_refused(filled, refused, &ended_early))
+            refused++;
+        EXPECT(refused > 2 && refused < 100);
+    }
+    EXPECT(ended_early);
+}
+
 /* Forgets all that is held of a name, with one allocation refused. Then a part may stay, which a
    second call forgets. */
 static enum rrcache_status forget_refused(long refused, bool is_recorded)
@@ -4251,6 +4294,7 @@ static void (*const TESTS[])(void) = {
     test_refused_memory,
     test_lookups_take_no_memory,
     test_refused_room,
+    test_refused_evictions,
     test_refused_forgetting,
 #endif
 };
