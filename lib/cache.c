@@ -185,8 +185,9 @@ void rrcache_close(struct rrcache *cache)
 
 uint64_t moment_now(void)
 {
-    struct timespec now;
-    clock_gettime(CLOCK_BOOTTIME, &now);
+    struct timespec now = {0};
+    if (clock_gettime(CLOCK_BOOTTIME, &now) != 0) /* a sandbox may refuse this clock */
+        clock_gettime(CLOCK_MONOTONIC, &now);
     return (uint64_t)now.tv_sec;
 }
 

@@ -304,7 +304,7 @@ static enum rrcache_status find_servers(struct rrcache *cache,
     struct lookup lookup = {&BY_ITSELF, &answer->end, question, &told, buffer, room, NO_TURN};
     enum rrcache_status status = look_up(cache, &lookup);
     if (status == RRCACHE_SMALL && told.kind != RRCACHE_FRESH)
-        return RRCACHE_DONE;
+        return question->moment > LAST_MOMENT ? RRCACHE_MOMENT_TOO_LARGE : RRCACHE_DONE;
     if (status != RRCACHE_DONE || told.kind != RRCACHE_FRESH)
         return status;
     end_rrset(answer, &told, question->rclass);

@@ -17,6 +17,12 @@ struct record {
     uint32_t ttl;
 };
 
+/* The owner of a record, as it is spelled, without compression. */
+struct owner {
+    size_t size;
+    uint8_t octets[NAME];
+};
+
 /* Memory to which octets are written, as far as there is room. */
 struct writer {
     uint8_t *octets;
@@ -129,9 +135,10 @@ static bool put_data(struct writer *to, const uint8_t *message, const struct rec
     return true;
 }
 
-/* Appends a record to an answer, as an RRset of its own under the name that was reached. */
+/* Appends a record with an owner to an answer, as an RRset of its own. */
 static enum rrcache_status put_record(const struct rrcache_response *response, bool aa,
-                                      const struct record *record, struct rrcache_answer *answer)
+                                      const struct record *record, const struct owner *owner,
+                                      struct rrcache_answer *answer)
 {
     size_t room;
     uint8_t *buffer = begin_rrset(answer, &room);
@@ -140,9 +147,9 @@ static enum rrcache_status put_record(const struct rrcache_response *response, b
         .kind = RRCACHE_FRESH,
         .rtype = record->rtype,
         .left = record->ttl < response->limits.cap ? record->ttl : response->limits.cap,
-        .owner_size = answer->end.size,
+        .owner_size = owner->size,
     };
-    put(&to, answer->end.octets, answer->end.size);
+    put(&to, owner->octets, owner->size);
     if (!put_data(&to, response->octets, record))
         return RRCACHE_BAD_DATA;
     if (to.size > room)
@@ -157,26 +164,42 @@ static enum rrcache_status put_record(const struct rrcache_response *response, b
     return RRCACHE_DONE;
 }
 
-/* Whether a name is the owner of a record. */
-static bool is_owned_by(const struct rrcache *cache, const struct rrcache_response *response,
-                        const struct record *record, const struct rrcache_name *wanted)
+/* Reads the owner of a record. Returns false if it cannot be read. */
+static bool read_owner(const struct rrcache_response *response, const struct record *record,
+                       struct owner *owner)
 {
-    uint8_t owner[NAME];
-    struct rrcache_name name = {0};
     size_t at = record->owner;
-    size_t size = expand(response->octets, response->size, &at, owner);
-    return rrcache_make_name(&name, owner, size, &cache->parts) == RRCACHE_DONE
+    owner->size = expand(response->octets, response->size, &at, owner->octets);
+    return owner->size != 0;
+}
+
+/* Whether an owner is a name. */
+static bool is_name(const struct rrcache *cache, const struct owner *owner,
+                    const struct rrcache_name *wanted)
+{
+    struct rrcache_name name = {0};
+    return rrcache_make_name(&name, owner->octets, owner->size, &cache->parts) == RRCACHE_DONE
            && name.size == wanted->size && memcmp(name.octets, wanted->octets, name.size) == 0;
 }
 
-/* Whether a record has a type that was asked for, and the name that was reached. */
-static bool is_wanted(const struct rrcache *cache, const struct rrcache_query *query,
-                      const struct rrcache_response *response, const struct record *record,
-                      const struct rrcache_name *reached)
+/* Whether a record has a type that was asked for. */
+static bool is_wanted(const struct rrcache_query *query, const struct record *record)
 {
     return is_unkept(record->rtype, record->rclass) && record->rclass == query->rclass
-           && (record->rtype == query->rtype || query->rtype == ANY)
-           && is_owned_by(cache, response, record, reached);
+           && (record->rtype == query->rtype || query->rtype == ANY);
+}
+
+/* Appends a record to an answer if its owner is the name that was reached. */
+static enum rrcache_status put_if_reached(const struct rrcache *cache,
+                                          const struct rrcache_response *response, bool aa,
+                                          const struct record *record,
+                                          struct rrcache_answer *answer)
+{
+    struct owner owner;
+    if (!read_owner(response, record, &owner))
+        return RRCACHE_BAD_DATA;
+    return is_name(cache, &owner, &answer->end) ? put_record(response, aa, record, &owner, answer)
+                                                : RRCACHE_DONE;
 }
 
 enum rrcache_status put_unkept(const struct rrcache *cache, const struct rrcache_query *query,
@@ -187,8 +210,8 @@ enum rrcache_status put_unkept(const struct rrcache *cache, const struct rrcache
     uint32_t left = number_at(response->octets + 6, 2);
     enum rrcache_status status = RRCACHE_DONE;
     for (; left > 0 && status == RRCACHE_DONE && read_record(response, record.end, &record); left--)
-        if (is_wanted(cache, query, response, &record, &answer->end))
-            status = put_record(response, aa, &record, answer);
+        if (is_wanted(query, &record))
+            status = put_if_reached(cache, response, aa, &record, answer);
     return status;
 }
 
@@ -197,13 +220,14 @@ bool has_record(const struct rrcache *cache, const struct rrcache_query *query,
                 uint16_t rtype, const struct rrcache_name *name)
 {
     struct record record = {.end = HEADER + query->name_size + 4};
+    struct owner owner;
     uint32_t answers = number_at(response->octets + 6, 2);
     bool is_first = section == RRCACHE_ANSWER_SECTION;
     uint32_t begin = is_first ? 0 : answers;
     uint32_t end = is_first ? answers : answers + number_at(response->octets + 8, 2);
     for (uint32_t i = 0; i < end && read_record(response, record.end, &record); i++)
         if (i >= begin && record.rtype == rtype && record.rclass == query->rclass
-            && is_owned_by(cache, response, &record, name))
+            && read_owner(response, &record, &owner) && is_name(cache, &owner, name))
             return true;
     return false;
 }

@@ -958,6 +958,24 @@ static void test_late_lookups(void)
     }
 }
 
+/* So is a look-up of a delegation whose negative answer needs no room. */
+static void test_late_delegations(void)
+{
+    struct rrcache *cache = open_small();
+    struct wire wire = wire_of("");
+    struct rrcache_negative negative = negative_of(&wire, RRCACHE_NODATA, 60);
+    struct rrcache_request request = request_of(&wire, A, LATE);
+    struct rrcache_answer small = {0};
+    negative.rtype = NS;
+    negative.moment = LAST;
+    NEED(store_negative(cache, negative) == RRCACHE_KEPT);
+    EXPECT(rrcache_lookup_delegation(cache, &request, &small) == RRCACHE_MOMENT_TOO_LARGE);
+    request.moment = LAST;
+    EXPECT(rrcache_lookup_delegation(cache, &request, &small) == RRCACHE_DONE
+           && small.kind == RRCACHE_MISS);
+    rrcache_close(cache);
+}
+
 /* Whether an answer has nothing, as one that a refused call leaves. */
 static bool is_empty(const struct rrcache_answer *answer)
 {
@@ -1781,7 +1799,7 @@ static void test_store_of_a_large_rrset(void)
 
 /* ---- Types that no shelf keeps: each record is told as an RRset of its own. */
 
-enum { NXT = 30, NAPTR = 35, WEEK = 604800 };
+enum { NXT = 30, NAPTR = 35, PRIVATE = 65280, WEEK = 604800 };
 /* The data of a NAPTR record (RFC 3403 section 4.1), whose name is a pointer to the question. */
 static const uint8_t POINTED[] = {0, 1, 0, 2, 1, 'u', 0, 5, '!', 'x', '!', 'y', '!', 0xc0, 12};
 /* The same with the name `a.example` in full (RFC 3597 section 4). */
@@ -1800,7 +1818,7 @@ static void test_types_that_are_not_kept(void)
     store(cache, &message, "a.example", NAPTR, &answer);
     struct rrcache_rrset first = nth(&answer, 0), second = nth(&answer, 1);
     EXPECT(answer.kind == RRCACHE_FRESH && answer.aliases == 0 && count_of(&answer) == 2
-           && is_rrset(&first, "a.example", NAPTR, 0, RRCACHE_FRESH)
+           && is_rrset(&first, "A.Example", NAPTR, 0, RRCACHE_FRESH)
            && has_datum(&first, OF(EXPANDED))
            && is_rrset(&second, "a.example", NAPTR, WEEK, RRCACHE_FRESH)
            && second.trust == RRCACHE_NON_AUTHORITATIVE_ANSWER && keys(cache) == 0);
@@ -1816,6 +1834,35 @@ static void test_types_that_are_not_kept(void)
            && is_rrset(&first, "a.example", A, 60, RRCACHE_FRESH)
            && is_rrset(&second, "a.example", RRSIG, 60, RRCACHE_FRESH)
            && has_datum(&second, OF(ADDRESS)) && second.trust == RRCACHE_AUTHORITATIVE_ANSWER);
+    rrcache_close(cache);
+}
+
+/* A record whose owner is reached by more pointers than are followed is not taken for one that is
+   not there, although an SOA record follows. */
+static void test_owners_behind_many_pointers(void)
+{
+    enum { POINTERS = 200, FIXED = 10, FLAG = 0xc000 };
+    static struct message message;
+    struct rrcache *cache = open_small();
+    struct rrcache_answer answer = blank();
+    struct rrcache_report report;
+    uint8_t chain[2 * POINTERS];
+    begin(&message, AA, "a.example", NAPTR);
+    size_t at = message.size + wire_of("b.example").size + FIXED, to = RRCACHE_HEADER_OCTETS;
+    for (size_t i = 0; i < POINTERS; i++) {
+        chain[2 * i] = (uint8_t)((FLAG | to) >> 8);
+        chain[2 * i + 1] = (uint8_t)to;
+        to = at + 2 * i;
+    }
+    add(&message, RRCACHE_ANSWER_SECTION, "b.example", PRIVATE, 60, OF(chain));
+    size_t owner = message.size;
+    add(&message, RRCACHE_ANSWER_SECTION, "", NAPTR, 60, OF(POINTED));
+    memmove(message.octets + owner + 2, message.octets + owner + 1, message.size++ - owner - 1);
+    message.octets[owner] = (uint8_t)((FLAG | to) >> 8);
+    message.octets[owner + 1] = (uint8_t)to;
+    add_soa(&message, "example", 60);
+    EXPECT(try_to_store(cache, &message, "a.example", NAPTR, &report, &answer) == RRCACHE_BAD_DATA
+           && is_empty(&answer));
     rrcache_close(cache);
 }
 
@@ -2213,7 +2260,7 @@ static void test_store_with_small_buffers(void)
 
 /* ---- The room that answers need, as rrcache.h has it of RRCACHE_ANSWER_OCTETS. */
 
-enum { PTR = 12, PRIVATE = 65280, MOST_DATA = 16384, MIB = 1 << 20 };
+enum { PTR = 12, MOST_DATA = 16384, MIB = 1 << 20 };
 
 /* A buffer that has room for each answer of a look-up whose RRsets came in responses. */
 static uint8_t large[MIB];
@@ -4201,6 +4248,7 @@ static void (*const TESTS[])(void) = {
     test_small_buffers,
     test_lookups_refused,
     test_late_lookups,
+    test_late_delegations,
     test_answers_of_refused_calls,
     test_clock,
     test_next,
@@ -4229,6 +4277,7 @@ static void (*const TESTS[])(void) = {
     test_rank_of_a_denial_behind_a_long_chain,
     test_store_of_a_large_rrset,
     test_types_that_are_not_kept,
+    test_owners_behind_many_pointers,
     test_types_that_are_not_kept_behind_an_alias,
     test_records_beside_an_alias,
     test_names_of_a_response_in_the_answer,
