@@ -491,6 +491,15 @@ def test_aliases_are_followed_where_that_is_asked_for(follows, middle):
         "ask 4 www.example. 1"]
 
 
+def test_of_several_CNAME_records_the_first_one_counts():
+    """As in the cache (docs/RULES.md, "What a response offers")."""
+    several = [f"www.example. 60 CNAME {it}.example." for it in "bac"]
+    answer = message(9, 0x8400, WWW, [*several, "b.example. 60 A 192.0.2.201"])
+    said = talk(*exchange(0, UP, answer), asks(1))
+    assert texts(said, follows_aliases=True)[1:] == ["ask 1 www.example. 5", "ask 1 b.example. 1"]
+    assert replies(said, follows_aliases=True) == ["fresh", "fresh"]
+
+
 NSEC = "www.example. NSEC"
 
 
@@ -908,6 +917,20 @@ def test_dnstap_tells_the_sides_and_the_zone():
     assert texts(octets) == [
         ASK, "response 1 example.", "response 3 .", "response 4 example.",
         "ask 4 www.example. 1", "fail 5 www.example. 1"]
+
+
+@pytest.mark.parametrize("kind, octets", [
+    (5, message(7, 0x8182, WWW)), (3, ANSWER), (7, ANSWER), (6, query()), (4, UP), (8, UP)])
+def test_a_message_of_dnstap_that_contradicts_its_kind_is_left_out(kind, octets):
+    """Its sender chose the QR bit, but the resolver says whether it is a query or a response. So
+    neither a client's query is a SERVFAIL to it, nor a server's response a query without one."""
+    capture = START + tapped(kind, 0, octets) + tapped(5, 20, query("later. A"))
+    assert told(capture) == ([LATE], {"frame: not what it should be": 1})
+
+
+def test_a_message_of_dnstap_without_flags_contradicts_nothing():
+    """It is the response to its query, though the cache refuses it."""
+    assert texts(START + tapped(3, 0, UP) + tapped(4, 1, UP[:2])) == ["response 1 ."]
 
 
 @pytest.mark.parametrize("at, mode", [(1, "failed"), (3, "now")])

@@ -441,6 +441,9 @@ CASES = {
                                         "wrong-denial"),
     "an alias to what was not told": (["@ 60 CNAME t.@"],
                                       ["@ 50 CNAME t.@", "t.@ 50 A 192.0.2.1"], "unseen"),
+    # the first CNAME record counts (docs/RULES.md), here neither the last nor the least
+    "several aliases": ([*(f"@ 60 CNAME {it}.@" for it in "bac"), "b.@ 60 A 192.0.2.1"],
+                        [*(f"@ 50 CNAME {it}.@" for it in "bac"), "b.@ 50 A 192.0.2.1"], "same"),
     "no alias": (["@ 60 A 192.0.2.1"], ["@ 50 CNAME t.@", "t.@ 50 A 192.0.2.1"], "wrong-set"),
     "the end of an alias alone": (["@ 60 CNAME t.@", "t.@ 8 A 192.0.2.1"],
                                   ["@ 50 CNAME t.@", "t.@ 30 A 192.0.2.1"], "missed"),
@@ -681,6 +684,36 @@ def test_an_eviction_is_counted(compare, tmp_path):
     _, found = compare(capture_of(tmp_path, GOOD, other), "--capacity=1")
     assert (found["evictions"], numbers(found)) == (1, {"same": 1, "missed": 1})
     assert all(it["why"].endswith(" --capacity 1") for it in found["examples"])
+
+
+@pytest.mark.parametrize("words, evictions, classes", [
+    ([], 0, {"same": 2}), (["--capacity=1"], 1, {"same": 1, "missed": 1})])
+@pytest.mark.parametrize("name", ["x-out:y.example.", "kept-out:y."])
+def test_a_name_counts_as_no_eviction(compare, tmp_path, name, words, evictions, classes):
+    """An eviction is the outcome of an offer (docs/FORMATS.md, "Reports"), not a word of a reply,
+    and has the name once more."""
+    odd = talk(name, 2, ["@ 60 A 192.0.2.1"], ["@ 50 A 192.0.2.1"])
+    _, found = compare(capture_of(tmp_path, odd, GOOD), *words)
+    assert (found["evictions"], numbers(found)) == (evictions, classes)
+
+
+# A type that dnspython does not know, so that it takes any octets, and type DNAME.
+UNKNOWN, DNAME = b"\xfd\xe8", b"\0\x27"
+
+
+@pytest.mark.parametrize("data, text", [
+    ("03666f6f00", "foo."), ("03666f6fc00c", "03666f6fc00c"), ("03616263", "03616263"),
+    ("0161005f", "0161005f"), ("", "")])
+def test_rdata_of_DNAME_that_are_no_name_are_told_as_digits(compare, tmp_path, data, text):
+    """The cache keeps these octets unread, also those of a name that a server compressed, though it
+    must not (RFC 6672 section 2.5)."""
+    lines = [rf"@ {ttl} TYPE65000 \# {len(data) // 2} {data}" for ttl in (60, 50)]
+    packets = talk("n.", 1, lines[:1], lines[1:], rtype="TYPE65000")
+    status, found = compare(capture_of(tmp_path, [(at, it.replace(UNKNOWN, DNAME))
+                                                  for at, it in packets]))
+    (example,) = found["examples"]
+    assert (status, numbers(found)) == (0, {"same": 1})
+    assert example["resolver"] == example["rrcache"] == [f"n. 50 DNAME {text}"]
 
 
 # ---- the command

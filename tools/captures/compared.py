@@ -14,6 +14,8 @@ from tools.names import fold, from_text
 
 # How many seconds apart TTLs may be: moments of a trace and of a resolver are whole seconds.
 ROUNDING = 1
+# The lines of a capture's trace that make offers, each of which may evict a key.
+OFFERED = ("response", "fail")
 
 
 class End(Enum):
@@ -31,16 +33,22 @@ ENDS = {"nodata": End.NODATA, "nxdomain": End.NXDOMAIN, "miss": End.MISS}
 
 
 class Records(NamedTuple):
-    """An RRset: the folded owner, the type, the rdata with folded names, and the TTL."""
+    """An RRset: the folded owner, the type, the rdata with folded names, each once, and the TTL."""
 
     owner: bytes
     rtype: int
-    data: frozenset
+    data: tuple
     ttl: int
 
     @property
     def identity(self):
-        return self.owner, self.rtype, self.data
+        """What RRsets have in common that differ by their TTLs and the order of records alone."""
+        return self.owner, self.rtype, frozenset(self.data)
+
+    @property
+    def target(self):
+        """Where an alias leads: of several CNAME records of a name the first one counts."""
+        return self.data[0]
 
 
 class Answer(NamedTuple):
@@ -91,7 +99,7 @@ def resolver_answer(cached):
 def chain_of(message):
     """The RRsets from the question's name along its aliases, and the name to which these lead. An
     alias is not followed if it has the CNAME or NSEC records that are asked for."""
-    there = {key: Records(*key, frozenset(it.folded for it in records),
+    there = {key: Records(*key, tuple(dict.fromkeys(it.folded for it in records)),
                           min(it.ttl for it in records))
              for key, records in sets_of(message.sections[0])}
     name, sets = fold(message.name), []
@@ -99,7 +107,7 @@ def chain_of(message):
     is_led = message.rtype != ANY and not has_own
     while is_led and (name, CNAME) in there and len(sets) < ALIASES_MOST:
         sets.append(there[name, CNAME])
-        name = min(sets[-1].data)
+        name = sets[-1].target
     if (name, message.rtype) in there:
         sets.append(there[name, message.rtype])
     return sets, name
@@ -129,8 +137,8 @@ def reply_of(ask, word, *words):
         return Reply(word, ttl=int(ttl))
     if word not in ("fresh", "stale"):
         raise ValueError
-    data = frozenset(plain_item(ask.rtype, b"" if it == "-" else bytes.fromhex(it))
-                     for it in items.split(","))
+    data = tuple(plain_item(ask.rtype, b"" if it == "-" else bytes.fromhex(it))
+                 for it in items.split(","))
     if None in data:
         raise ValueError
     return Reply(word, Records(fold(from_text(owner.encode())), ask.rtype, data, int(ttl)))
@@ -147,10 +155,11 @@ def replies_in(report, asks, count):
                 raise ValueError
             if place in asks:
                 replies[place] = reply_of(asks[place], *words)
+            if word in OFFERED:
+                evictions += sum(it.startswith("kept-out:") for it in words)
         except (TypeError, ValueError) as fault:
             raise ReportFault(f"the report is not about line {place} of the trace, but has"
                               f" {text.strip()!r}") from fault
-        evictions += text.count("-out:")
     if place + 1 != count:
         raise ReportFault(f"the report has {place + 1:,} lines, and the trace {count:,}")
     return replies, evictions
@@ -169,7 +178,7 @@ def cache_answer(asks, replies):
             return Answer(tuple(sets), ENDS[reply.word], reply.ttl, is_stale)
         sets.append(reply.records)
         is_stale |= reply.word == "stale"
-        name = min(sets[-1].data) if is_link else name
+        name = sets[-1].target if is_link else name
     return Answer(tuple(sets), End.DATA, None, is_stale)
 
 

@@ -17,6 +17,8 @@ DNSTAP_MESSAGE = 14
 # The fields of a message. A query and a response have seconds, nanoseconds and octets each.
 TYPE, QUERY_ADDRESS, RESPONSE_ADDRESS, QUERY_PORT, RESPONSE_PORT, ZONE = 1, 4, 5, 6, 7, 11
 QUERY, RESPONSE = (8, 9, 10), (12, 13, 14)
+# The QR bit, in the third octet of a DNS message (RFC 1035 section 4.1.1).
+QR_OCTET, QR_BIT = 2, 128
 # What a message is, by its type: the side, and whether it is a query or a response.
 ROLES = {
     3: ("server", QUERY), 4: ("server", RESPONSE), 5: ("client", QUERY), 6: ("client", RESPONSE),
@@ -89,6 +91,12 @@ def zone_of(message):
     return zone
 
 
+def contradicts(kind, octets):
+    """Whether octets have the QR bit of the other kind. Their sender chose the bit: a query of a
+    client could pass for a SERVFAIL to it, and a response of a server for a query to a server."""
+    return len(octets) > QR_OCTET and bool(octets[QR_OCTET] & QR_BIT) != (kind == RESPONSE)
+
+
 def seen(message):
     """What was seen, by a dnstap message."""
     side, kind = ROLES[message[TYPE]]
@@ -102,6 +110,8 @@ def seen(message):
     at = index(message[seconds]) * MICROSECONDS + message.get(nanoseconds, 0) // 1000
     if len(message[octets]) > MESSAGE_MOST:
         raise ValueError("more octets than a message has")
+    if contradicts(kind, message[octets]):
+        raise ValueError("a query in place of a response, or a response in place of a query")
     return Seen(at, *ends, message[octets], side, zone_of(message))
 
 

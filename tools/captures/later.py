@@ -39,7 +39,7 @@ def piece_in(offer):
     """What an offer has."""
     key, body, _ = offer
     if body.kind == "positive":
-        data = frozenset(plain_item(key.rtype, it) for it in body.items)
+        data = tuple(plain_item(key.rtype, it) for it in body.items)
         return Records(fold(body.owner), key.rtype, data, body.ttl).identity
     return denial(End.NXDOMAIN if key.slot == "nx" else End.NODATA, key.name, key.rtype)
 

@@ -12,7 +12,7 @@ from tools.captures.seen import CUT, MICROSECONDS
 from tools.captures.sides import QR, RD, Sides, guess
 from tools.messages import (ALIASES_MOST, ANY, CNAME, HEADER, IN, NOERROR, NOT_FOLLOWED, NS, NSEC,
                             NXDOMAIN, QUESTION, SOA, MessageFault, fields_at, final_name,
-                            in_own_class, is_kept, name_at, read, why_nothing)
+                            in_own_class, is_kept, name_at, read, sets_of, why_nothing)
 from tools.model import RECHECK
 from tools.names import ROOT, ancestors, fold, is_at_or_below, to_text
 from tools.traces import MOMENT_MOST
@@ -406,9 +406,9 @@ class Traffic:
 
     def learn_aliases(self, message, zone):
         """Learns which names of an answer are aliases, and which are not. Either may have an NSEC
-        record (RFC 4035 section 2.5)."""
-        targets = {fold(it.owner): it.data if it.rtype == CNAME else None
-                   for it in message.sections[0] if it.rtype != NSEC}
+        record (RFC 4035 section 2.5). Of several CNAME records of a name the first one counts."""
+        targets = {owner: records[0].data if rtype == CNAME else None
+                   for (owner, rtype), records in sets_of(message.sections[0]) if rtype != NSEC}
         targets[no_alias(message)] = None
         for name, target in targets.items():
             if name and is_at_or_below(name, zone):
