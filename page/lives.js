@@ -69,10 +69,16 @@ function linesOf(text, ...words) {
   return text.split('\n').map((line) => line.split(' ')).filter((it) => words.includes(it[0]));
 }
 
+// Sorts events by their lines of the trace, and those of a line by their places.
+function inOrder([, line, place], [, otherLine, otherPlace]) {
+  return line - otherLine || place - otherPlace;
+}
+
+// The histories come part by part, but a line of the trace may have events in several parts.
 function livesOf(histories, spans) {
   const lives = new Lives();
-  for (const words of linesOf(histories, 'offer', 'ask')) lives[words[0]](words);
+  const events = linesOf(histories, 'offer', 'ask').sort(inOrder);
+  for (const words of events) lives[words[0]](words);
   for (const words of linesOf(spans, 'span')) lives.span(words);
-  lives.offers.sort((one, other) => one.line - other.line);
   return lives;
 }

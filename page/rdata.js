@@ -1,5 +1,6 @@
 // SPDX-License-Identifier: MIT
-// Types and rdata in presentation form (RFC 1035 section 5.1; other types by RFC 3597 section 5).
+// Types and rdata in presentation form (RFC 1035 section 5.1; by RFC 3597 section 5 for other types
+// and for rdata without the form of their type, since the cache keeps some rdata as they are).
 // This text is only shown: it does not go back to the module.
 
 const TYPES = {
@@ -9,6 +10,8 @@ const TYPES = {
 };
 const CLASSES = { 3: 'CH', 4: 'HS' };
 const OUTCOMES = { kept: 'stored', cleared: 'cleared', less: 'outranked' };
+const MOST_IN_LABEL = 63; // octets of a label, and of a name (RFC 1035 section 2.3.4)
+const MOST_IN_NAME = 255;
 
 function typeName(number) {
   return TYPES[number] ?? `TYPE${number}`;
@@ -39,11 +42,17 @@ function quoted(octet) {
   return char === ' ' || char === '.' ? char : escaped(octet);
 }
 
-// Reads rdata from the beginning.
+// Reads rdata from the beginning. If octets are missing, `place` comes to lie past the end.
 class Rdata {
   constructor(octets) {
     this.octets = octets;
     this.place = 0;
+    this.hasNames = true; // whether all names that were read are names
+  }
+
+  // Whether the rdata have the form that was read: no octet is missing or left over.
+  isWhole() {
+    return this.hasNames && this.place === this.octets.length;
   }
 
   number(size) {
@@ -53,22 +62,26 @@ class Rdata {
   }
 
   name() {
+    const start = this.place;
     let text = '';
     for (let size = this.number(1); size; size = this.number(1)) {
+      this.hasNames &&= size <= MOST_IN_LABEL;
       text += `${this.octets.slice(this.place, this.place + size).map(escaped).join('')}.`;
       this.place += size;
     }
+    this.hasNames &&= this.place - start <= MOST_IN_NAME;
     return text || '.';
   }
 
+  // At least one string (RFC 1035 section 3.3.14).
   strings() {
     const all = [];
-    while (this.place < this.octets.length) {
+    do {
       const size = this.number(1);
       const octets = this.octets.slice(this.place, this.place + size);
       all.push(`"${octets.map(quoted).join('')}"`);
       this.place += size;
-    }
+    } while (this.place < this.octets.length);
     return all.join(' ');
   }
 
@@ -91,8 +104,10 @@ for (const type of [2, 5, 12, 39]) READERS[type] = (it) => it.name();
 
 function rdataText(type, hex) {
   const octets = octetsOf(hex);
-  const read = READERS[type];
-  return read ? read(new Rdata(octets)) : `\\# ${octets.length} ${octets.length ? hex : ''}`.trim();
+  const rdata = new Rdata(octets);
+  const text = READERS[type]?.(rdata);
+  if (text !== undefined && rdata.isWhole()) return text;
+  return `\\# ${octets.length} ${octets.length ? hex : ''}`.trim();
 }
 
 // The rdata of an RRset, or of the SOA record of a negative answer.

@@ -344,6 +344,25 @@ def test_how_many_offers_are_left_out_is_told(tmp_path):
     assert browser.evaluated(tmp_path, code) == [[2000, ""], [2000, "and 3 more offers"]]
 
 
+def test_events_of_several_parts_are_in_the_order_of_the_trace(tmp_path):
+    # docs/FORMATS.md, "Archives": the place of an event is that of its operation in the line. Each
+    # part has a history, and the events of a line may be in several of them.
+    first = ["chapter 1 0 1024 4096 86400",
+             "offer 0 2 100 c.example. 1 set 4 60 c.example. c0000203 kept",
+             "offer 0 10 100 d.example. 1 set 4 60 d.example. c0000204 kept",
+             "ask 1 0 101 c.example. 1 any none fresh 59 c.example. c0000203"]
+    second = ["chapter 1 0 1024 4096 86400",
+              "offer 0 0 100 a.example. 1 set 4 60 a.example. c0000201 kept",
+              "offer 0 9 100 b.example. 1 failure 30 kept",
+              "offer 2 0 102 a.example. 1 set 4 60 a.example. c0000205 kept"]
+    code = "const { offers, keys } = livesOf(GIVEN, ''); return [offers.map((it) =>" \
+           " `${it.line} ${it.key.name}`), [...keys.values()].map((it) => it.name)];"
+    names = [f"{it}.example." for it in "acbd"]
+    for parts in (first + second, second + first):
+        got = browser.evaluated(tmp_path, code, "".join(f"{it}\n" for it in parts))
+        assert got == [[*(f"0 {it}" for it in names), "2 a.example."], names]
+
+
 def test_rdata_in_presentation_form(tmp_path):
     # RFC 5952 for the address, RFC 3597 section 5 for a type that the page does not read.
     cases = [[1, "c0000201", "192.0.2.1"], [28, "20010db8000000000000000000000001", "2001:db8::1"],
@@ -355,6 +374,22 @@ def test_rdata_in_presentation_form(tmp_path):
     got = browser.evaluated(tmp_path, "return GIVEN.map(([type, hex]) => rdataText(type, hex));",
                             cases)
     assert got == [it[2] for it in cases]
+
+
+def test_rdata_without_the_form_of_their_type_are_shown_as_octets(tmp_path):
+    # RFC 1035 sections 2.3.4, 3.3.14 and 3.4.1, RFC 3596 section 2.2: octets are missing or left
+    # over, a text has no string, and a label has more than 63 octets or a name more than 255.
+    label, long_label = "3f" + 63 * "61", "40" + 64 * "61"
+    cases = [(1, "c0"), (1, "-"), (1, "c0000201ff"), (28, "00"), (28, 17 * "00"), (16, "05aa"),
+             (16, "-"), (16, "016101"), (39, "c00c"), (39, "-"), (39, "0161"), (39, "016100ff"),
+             (39, f"{long_label}00"), (39, 3 * label + "3e" + 62 * "61" + "00"), (15, "000a"),
+             (6, "0000000000010000000200000003000000040000"), (33, "00010002003500ff")]
+    shown = [f"\\# {len(hex) // 2} {hex}" if hex != "-" else "\\# 0" for _, hex in cases]
+    whole = [(39, f"{label}00", f"{63 * 'a'}."), (16, "00", '""'),
+             (39, 3 * label + "3d" + 61 * "61" + "00", 3 * f"{63 * 'a'}." + f"{61 * 'a'}.")]
+    got = browser.evaluated(tmp_path, "return GIVEN.map(([type, hex]) => rdataText(type, hex));",
+                            [*cases, *(it[:2] for it in whole)])
+    assert got == [*shown, *(it[2] for it in whole)]
 
 
 @pytest.mark.parametrize("theme", browser.THEMES)
