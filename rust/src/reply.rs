@@ -30,7 +30,8 @@ impl Answer {
     /// `message`. The response has the RRsets of the answer in their sections, or no records if the
     /// answer is a miss. QR and RA are set, and the identifier and the question are those of the
     /// query. If the response would have more than `most` octets, it has no records, and TC is set
-    /// (RFC 2181 section 9). Over UDP without EDNS, `most` is 512.
+    /// (RFC 2181 section 9). Over UDP without EDNS, `most` is 512. The question is never left out:
+    /// if `most` is below 271, a response without records may have more than `most` octets.
     ///
     /// RD is clear. The caller must copy RD from the query (`message[2] |= query[2] & 1`), and add
     /// an OPT record if the query had one.
@@ -50,6 +51,10 @@ impl Answer {
         let mut counts = [0u16; 2];
         begin(message, query, kind.rcode());
         let end = message.len();
+        if end > most {
+            message[2] |= TC;
+            return;
+        }
         let told = self.rrsets().take_while(|_| kind.rcode() != 2);
         for rrset in told {
             let Some(records) = put_rrset(message, query, &rrset, most) else {

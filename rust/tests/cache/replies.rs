@@ -77,6 +77,22 @@ fn misses_are_servfail() {
     assert_eq!(composed(&answer, "www.example", RecordType::A, 512), wanted);
 }
 
+/// A response without records has the whole question, and TC if there is no room for that.
+#[test]
+fn a_question_without_room_sets_tc() {
+    let label = "a".repeat(63);
+    let of = format!("{label}.{label}.{label}.{}", "a".repeat(61));
+    let (cache, wire) = (open(), name(&of).wire().to_vec());
+    let answer = look(&cache, &of, RecordType::A, FIRST);
+    assert_eq!(wire.len(), 255);
+    // 12, 255 and 4 octets are 271.
+    for (most, flags) in [(512, 0x80), (271, 0x80), (270, 0x82), (100, 0x82), (0, 0x82)] {
+        let header = [0x12, 0x34, flags, 0x82, 0, 1, 0, 0, 0, 0, 0, 0];
+        let wanted = [&header[..], &wire, b"\0\x01\0\x01"].concat();
+        assert_eq!(composed(&answer, &of, RecordType::A, most), wanted);
+    }
+}
+
 /// What was written is read again, as the response of a server.
 #[test]
 fn another_cache_stores_what_was_written() {
