@@ -20,26 +20,54 @@ from .library import SINK, library
 Take = Callable[[int, bytes], object]
 
 
-def made_apart(call: Callable[[], None], faults: list[BaseException]) -> None:
-    """Makes a call in a thread of its own, and waits until the call has ended. In the main thread,
-    the handler of a signal may raise an exception as soon as a callback begins, before the `try` of
-    the callback. ctypes would drop this exception together with the octets, and return an arbitrary
-    number to the library. Objects of `threading` that are written in Python cannot handle such an
-    exception either, so a plain lock shows when the call has ended."""
-    running, ended = Lock(), [False]
+def made_apart(call: Callable[[], None], faults: list[BaseException]) -> bool:
+    """Makes a call in a thread of its own, and waits until the call has ended. Returns False if no
+    thread can be started. In the main thread, the handler of a signal may raise an exception as
+    soon as a callback begins, before the `try` of the callback. ctypes would drop this exception
+    together with the octets, and return an arbitrary number to the library. Objects of `threading`
+    that are written in Python cannot handle such an exception either, so plain locks are used.
+
+    A handler may also raise an exception at any point of this function. Before the thread starts,
+    and after the call has ended, this exception is raised. In between, it is appended to `faults`:
+    a call that has not begun is then never made, and a call that has begun should end."""
+    go, running, ended = Lock(), Lock(), [False]
 
     def run() -> None:
-        call()
+        go.acquire()
+        if not faults:
+            call()
         ended[0] = True
         running.release()
 
-    running.acquire()
-    start_new_thread(run, ())
-    while not ended[0]:
-        try:
+    def wait() -> None:
+        if go.locked():  # perhaps by `run`, which acquires it only once
+            go.release()
+        while not ended[0]:
             running.acquire()
-        except BaseException as fault:
+
+    go.acquire()
+    running.acquire()
+    runs = iter([run])
+    threads: list[int] = []
+    try:
+        # A single call in C takes `run`, starts the thread and notes it in `threads`. No handler
+        # runs in between, so `runs` and `threads` always tell whether the thread was started.
+        threads.extend(map(start_new_thread, runs, [()]))
+        wait()
+    except BaseException as fault:
+        if threads:
             faults.append(fault)
+        elif isinstance(fault, RuntimeError) and not next(runs, None):
+            return False
+        else:
+            raise
+    finally:
+        while threads and not ended[0]:
+            try:
+                wait()
+            except BaseException as fault:
+                faults.append(fault)
+    return True
 
 
 def made(call: Callable[[], None], faults: list[BaseException]) -> None:
@@ -52,10 +80,7 @@ def made(call: Callable[[], None], faults: list[BaseException]) -> None:
         raise RuntimeError("nothing can be written while the interpreter ends")
     if current_thread().daemon:
         call()
-        return
-    try:
-        made_apart(call, faults)
-    except RuntimeError:  # in a function of atexit, Python 3.12 may start no thread
+    elif not made_apart(call, faults):  # in a function of atexit, Python 3.12 may start no thread
         call()
 
 

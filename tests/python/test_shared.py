@@ -2,6 +2,7 @@
 """The cache that threads share: what it is asked, what is stored in it, and what it writes.
 Responses are dnspython's. TTLs, kinds and ranks follow from RFC 1034, RFC 2181, RFC 2308, RFC 8767
 and RFC 9520."""
+import itertools
 import os
 import re
 import signal
@@ -9,7 +10,8 @@ import subprocess
 import sys
 import threading
 import time
-from contextlib import suppress
+from _thread import start_new_thread
+from contextlib import contextmanager, suppress
 
 import pytest
 from dns.flags import AA, RA, TC
@@ -17,7 +19,7 @@ from dns.rcode import NXDOMAIN, REFUSED, SERVFAIL
 from dns.rdatatype import A, AAAA, ANY, CNAME, DNAME, MX, NS, RRSIG, SOA, TXT
 
 import rrcache
-from rrcache import Kind, Mode, Outcome, ResponseKind, SharedCache, Trust
+from rrcache import Kind, Mode, Outcome, ResponseKind, SharedCache, Trust, writing
 from tests.conftest import TOP
 from tests.forwarder.harness import ID, aliases, answered, hosts, wire_name
 from tests.forwarder.harness import SOA as SOA_LINE
@@ -623,6 +625,91 @@ def test_signals_while_a_cache_is_written():
     finally:
         signal.setitimer(signal.ITIMER_REAL, 0)
         signal.signal(signal.SIGALRM, usual)
+
+
+@contextmanager
+def raised_before(point, fault):
+    """Raises a fault before the byte code with this number, of those of writing.py in this thread,
+    as the handler of a signal may. Yields a list that holds the fault once it has been raised."""
+    passed, raised = itertools.count(), []
+
+    def trace(frame, event, _):
+        if frame.f_code.co_filename != writing.__file__:
+            return None
+        frame.f_trace_opcodes = True
+        if event == "opcode" and next(passed) == point:
+            raised.append(fault())
+            raise raised[0]
+        return trace
+
+    usual = sys.gettrace()
+    sys._getframe().f_trace_opcodes = True  # Python 3.12 reads this only as it begins to trace
+    sys.settrace(trace)
+    try:
+        yield raised
+    finally:
+        sys.settrace(usual)
+
+
+def made_before(point, fault, monkeypatch):
+    """What a call that is made apart has done when this thread no longer waits for it, what it has
+    done in the end, what was raised, and what the waiting thread was told of that."""
+    done, faults, threads = [], [], []
+
+    def call():
+        done.append("begun")
+        time.sleep(0.002)
+        done.append("ended")
+
+    def start(run, arguments):
+        threads.append(threading.Event())
+        return start_new_thread(lambda: (run(), threads[0].set()), arguments)
+
+    monkeypatch.setattr("rrcache.writing.start_new_thread", start)
+    with raised_before(point, fault) as raised:
+        try:
+            writing.made(call, faults)
+        except fault as it:
+            faults.append(it)
+    at_first = [*done]
+    assert all(it.wait(10) for it in threads), f"a thread waits forever: {point}"
+    return at_first, done, raised, faults
+
+
+@pytest.mark.parametrize("fault", [Alarm, RuntimeError])
+def test_signals_at_any_point_of_a_wait(fault, monkeypatch):
+    """Whenever a handler raises, the call has ended or is never made, and no thread is left. What
+    it raises is never lost, and never taken for a thread that cannot begin."""
+    for point in itertools.count():
+        at_first, in_the_end, raised, faults = made_before(point, fault, monkeypatch)
+        assert at_first == in_the_end and at_first in ([], ["begun", "ended"]), point
+        assert faults == raised, point
+        if not raised:
+            break
+    assert point > 50 and in_the_end == ["begun", "ended"]
+
+
+def test_signals_one_after_another():
+    """Handlers that raise while a call is waited for do not end the wait."""
+    faults, done = [], []
+
+    def handler(*_):
+        raise Alarm
+
+    def call():
+        for number in range(1, 4):
+            signal.pthread_kill(threading.main_thread().ident, signal.SIGALRM)
+            until = time.monotonic() + 10
+            while len(faults) < number and time.monotonic() < until:
+                time.sleep(0.0001)
+        done.append("ended")
+
+    usual = signal.signal(signal.SIGALRM, handler)
+    try:
+        writing.made(call, faults)
+    finally:
+        signal.signal(signal.SIGALRM, usual)
+    assert done == ["ended"] and [type(it) for it in faults] == [Alarm] * 3
 
 
 def test_signals_while_a_cache_is_opened(monkeypatch):
