@@ -6,16 +6,27 @@ import os
 import threading
 from typing import Any
 
-from .choices import Class, Kind, Mode, Purpose
+from .choices import Class, Mode, Purpose
 from .library import Closing
 from .offers import Offers, read_message_unchecked, read_response
 from .parts import AnyName, Name, Parts, names_under
 from .refusals import Refused
-from .replies import Counts, Limits, Query, Reply, Trimmed
+from .replies import Counts, Limits, Query, Reply, Stored, StoredEntry, Trimmed
 from .shelf import KEYS_MOST, Shelf
 
 LINKS_MOST = 16
 NONE = Counts(0, 0, 0)
+
+
+def is_recent(stored: Stored, alias: StoredEntry | None, moment: int) -> bool:
+    """Returns whether the failure of a question is recent: it is unexpired, and was stored later
+    than all other entries for the question, and later than the CNAME record of its name. No reply
+    can show this, because older data of the type, which that record replaced, may be unexpired."""
+    failure = stored.failure
+    if failure is None or max(0, moment - failure.moment) >= failure.ttl:
+        return False
+    others = alias, stored.set, stored.nxdomain
+    return all(it is None or it.number < failure.number for it in others)
 
 
 class Cache(Closing):
@@ -61,14 +72,6 @@ class Cache(Closing):
         with lock:
             return shelf.ask(found, rtype, moment, purpose, mode, line, rclass)
 
-    def _has_failed(self, name: AnyName, rtype: int, moment: int, purpose: Purpose | int,
-                    rclass: Class | int) -> bool:
-        """Returns whether resolution of the question has failed recently, and no fresh answer is
-        cached."""
-        found, lock, shelf = self._found(name)
-        with lock:
-            return shelf.peek(found, rtype, moment, purpose, rclass=rclass).kind is Kind.FAILED
-
     def follow(self, name: AnyName, rtype: int, moment: int, *,
                purpose: Purpose | int = Purpose.QUESTION, mode: Mode | int = Mode.NO_STALE,
                line: int = 0, rclass: Class | int = Class.IN) -> list[Reply]:
@@ -76,9 +79,12 @@ class Cache(Closing):
         each name of the chain: a CNAME record for each alias, and then the reply for the end of the
         chain. `Shelf.ask_alias` chooses between a CNAME record and data of the type. There are at
         most 16 replies. If the chain is a loop or is longer, the last reply is a CNAME record. Each
-        reply is one event. With the mode STALE_IF_FAILED, a recent failure of the question makes
-        stale data acceptable for every name of its chain. The arguments and the exceptions are
-        those of `Shelf.ask`.
+        reply is one event. The arguments and the exceptions are those of `Shelf.ask`.
+
+        With the mode STALE_IF_FAILED, stale data are acceptable for every name of the chain if
+        resolution of the question has failed recently, and this failure was stored after the CNAME
+        record, if any, of the question's name (RFC 8767 section 5). Otherwise, they are acceptable
+        only for names for which resolution of the type has failed recently.
 
         >>> from rrcache import ParsedSet, compose_response
         >>> query = Query("www.example.", 1, id=0x1234)
@@ -90,15 +96,15 @@ class Cache(Closing):
         ...     [(it.owner_text, it.left) for it in cache.follow("www.example.", 1, moment=1010)]
         [('www.example.', 50), ('a.example.', 20)]
         """
-        if mode == Mode.STALE_IF_FAILED:
-            has_failed = self._has_failed(name, rtype, moment, purpose, rclass)
-            mode = Mode.STALE_NOW if has_failed else Mode.NO_STALE
         replies: list[Reply] = []
         seen = set()
         while True:
             found, lock, shelf = self._found(name)
             with lock:
                 reply = shelf.ask_alias(found, rtype, moment, purpose, mode, line, rclass)
+                if (not replies and reply.rtype != rtype and mode == Mode.STALE_IF_FAILED
+                        and is_recent(shelf.stored(found, rtype, rclass), reply.entry, moment)):
+                    mode = Mode.STALE_NOW
             replies.append(reply)
             seen.add(found.octets)
             if reply.rtype == rtype:

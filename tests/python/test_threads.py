@@ -99,9 +99,63 @@ def test_aliases_are_followed():
         assert kinds("x0.example", A, 171, **failed) == [STALE] * 4
         for one, alias in zip(names, aliases(names)):
             cache.offer_message_unchecked(answered(one, CNAME, alias), "example.", 172)
+        # A failure that is older than the alias says nothing about the alias's target.
+        assert kinds("x0.example", A, 173, **failed) == [FRESH] * 3 + [MISS]
+        cache.offer_message_unchecked(failed_response, "example.", 173)
         assert kinds("x0.example", A, 173, **failed) == [FRESH] * 3 + [STALE]
         # A question that did not fail.
         assert kinds("x1.example", A, 173, **failed) == [FRESH] * 2 + [MISS]
+
+
+# What is stored one after another: an owner, a type, a TTL and a moment. "www" is an alias of "x",
+# and a type of 0 stands for a failure of an address.
+ALIAS, TARGET = ("www.example", CNAME, 600, 1000), ("x.example", A, 60, 1000)
+FAILURE, END_FAILURE = ("www.example", 0, 30, 1105), ("x.example", 0, 30, 1105)
+REPLACED = ("www.example", A, 3600, 900)
+EXPIRED_ALIAS = ("www.example", CNAME, 60, 1000)
+
+
+def store_in_both(cache, shared, owner, rtype, ttl, moment):
+    [(_, shelf)] = cache._shelves
+    if rtype == 0:
+        shelf.offer_failure(owner, A, ttl, moment)
+        shared.store_failure(owner, A, ttl, moment)
+        return
+    data = [wire_name("x.example") if rtype == CNAME else bytes(4)]
+    for call in (shelf.offer_set, shared.store_set):
+        call(owner, rtype, rrcache.Trust.AUTHORITATIVE_ANSWER, ttl, data, moment)
+
+
+@pytest.mark.parametrize("stored, moment, kinds", [
+    # The end has failed, whichever alias leads to it.
+    ([ALIAS, TARGET], 1100, [FRESH, MISS]),
+    ([ALIAS, TARGET, END_FAILURE], 1106, [FRESH, STALE]),
+    ([ALIAS, TARGET, END_FAILURE], 1135, [FRESH, MISS]),
+    # The question has failed, after its alias was stored or before.
+    ([ALIAS, TARGET, FAILURE], 1106, [FRESH, STALE]),
+    ([ALIAS, TARGET, FAILURE], 1135, [FRESH, MISS]),
+    ([ALIAS, TARGET, FAILURE, ("www.example", CNAME, 600, 1110)], 1111, [FRESH, MISS]),
+    # A TTL of 0 ends a failure, even at a moment before it was offered.
+    ([ALIAS, TARGET, FAILURE, ("www.example", 0, 0, 1120)], 1106, [FRESH, MISS]),
+    # Older data of the type, which the alias replaced and which have not expired, hide no failure.
+    ([REPLACED, ALIAS, TARGET, FAILURE], 1106, [FRESH, STALE]),
+    ([REPLACED, ALIAS, TARGET, FAILURE], 1135, [FRESH, MISS]),
+    ([REPLACED, ALIAS, TARGET, END_FAILURE], 1106, [FRESH, STALE]),
+    # The alias has expired: a failure of the end does not lead there.
+    ([EXPIRED_ALIAS, TARGET, END_FAILURE], 1106, [MISS]),
+    ([EXPIRED_ALIAS, TARGET, FAILURE], 1106, [STALE, STALE]),
+])
+def test_stale_chains(stored, moment, kinds):
+    """As docs/RULES.md says, "Serving stale data". A shared cache tells the same."""
+    mode = rrcache.Mode.STALE_IF_FAILED
+    with rrcache.Cache(1) as cache, rrcache.SharedCache(shelves=1) as shared:
+        for it in stored:
+            store_in_both(cache, shared, *it)
+        replies = cache.follow("www.example", A, moment, mode=mode)
+        answer = shared.lookup("www.example", A, moment, mode=mode)
+    assert [it.kind for it in replies] == kinds and answer.kind == kinds[-1]
+    assert [(it.owner, it.rtype, it.ttl) for it in answer] == [
+        (it.owner, it.rtype, it.left) for it in replies if it.kind != MISS]
 
 
 def test_a_cache_has_a_seed_of_its_own():
