@@ -25,7 +25,7 @@ from tests.tools.shared import (ENTRY, LONG_LIST, SEVERAL, SHARED, SHORT_LIST, T
                                 interrupted, ran)
 from tools.captures import dnstap
 from tools.captures.packets import Capture, NoCapture
-from tools.captures.seen import Peer, Seen
+from tools.captures.seen import MICROSECONDS, Peer, Seen
 from tools.captures.sides import Place
 from tools.captures.traffic import WAIT_UNKNOWN, Traffic
 from tools.captures.waits import HELD_MOST, Waits
@@ -38,7 +38,7 @@ PCAP, DNSTAP = CAPTURES / "small.pcap", CAPTURES / "small.dnstap"
 ANY = "255"
 CLIENT, RESOLVER, SERVER, OTHER = (bytes([192, 0, 2, it]) for it in (1, 53, 201, 202))
 RESOLVERS = [Place.of(it) for it in ("192.0.2.53", "2001:db8:53::53")]
-NOW = 1_000_000_000
+NOW, HOUR = 1_000_000_000, 3_600
 
 
 def lines_of(octets, ports=(53,), **options):
@@ -721,6 +721,14 @@ def test_the_same_packet_on_two_interfaces_counts_once(seconds, count):
     assert len(texts(talk(ASKED, (seconds, *ASKED[1:])))) == count
 
 
+@pytest.mark.parametrize("again, count", [
+    ([5], 2), ([0.002], 1), ([-0.002], 1), ([5, 5.002], 2), ([5, 5.002, 10], 3)])
+def test_the_same_packet_counts_again_later_also_behind_a_clock_set_back(again, count):
+    """A stub sends its query again from the same port, with the same number."""
+    said = talk((HOUR, *LATER[1:]), ASKED, *((it, *ASKED[1:]) for it in again))
+    assert len(texts(said)) == 1 + count
+
+
 @pytest.mark.parametrize("times, count", [((10, 5, 9, 8), 2), ((10, 9), 0), ((0, 5, 10), 0)])
 def test_messages_that_go_backward_in_time_are_counted(times, count):
     """By more than a second, from the latest one of all before."""
@@ -795,6 +803,59 @@ def test_asks_are_stale_at_once_where_that_is_asked_for(limit):
 def test_what_is_not_known_of_a_client_at_the_end_is_counted():
     assert modes_of(talk(ASKED, (1.5, RESOLVER, SERVER, UP))) == (["failed"], {
         WAIT_UNKNOWN: 1, "query: the capture ends before its response or time-out": 1})
+
+
+def told_time(at):
+    """A server's response, which tells nothing of a client but what time it is."""
+    return at, SERVER, RESOLVER, ANSWER
+
+
+@pytest.mark.parametrize("said, modes, unknown", [
+    # a clock is set back: answered at once, and never answered
+    ([told_time(HOUR), ASKED, answered(0.001), asks(1, "b. A"), answered(1.001)], ["failed"] * 2,
+     0),
+    ([told_time(HOUR), ASKED, LATER, answered(20)], ["now", "failed"], 0),
+    # a query from before that, of which nobody can tell
+    ([asks(HOUR, "b. A"), told_time(0), told_time(9)], ["failed"], 1),
+    # but only out of order, by less than a minute
+    ([asks(59, "b. A"), *map(told_time, (0, 9, 61, 62))], ["now"], 0),
+    # one time is wrong, between a query and its answer
+    ([ASKED, told_time(HOUR), answered(0.001), LATER, answered(20)], ["failed"] * 2, 0),
+    ([ASKED, told_time(-HOUR), answered(0.001), LATER, answered(20)], ["failed"] * 2, 0),
+    # an hour of silence, or a clock set forward
+    ([ASKED, answered(0.001), asks(HOUR, "b. A"), answered(HOUR + 0.001)], ["failed"] * 2, 0),
+    ([ASKED, told_time(HOUR)], ["now"], 0),
+    ([ASKED, answered(2), told_time(1)], ["now"], 0),
+    ([ASKED, told_time(HOUR), asks(HOUR, "b. A"), answered(HOUR + 1)], ["now", "failed"], 0)])
+def test_a_client_waited_by_the_times_that_follow_its_query(said, modes, unknown):
+    """RFC 8767 section 5: the timer begins with the query, and an answer within it ends it."""
+    found, counts = modes_of(talk(*said))
+    assert (found, counts[WAIT_UNKNOWN]) == (modes, unknown)
+
+
+def client_asks(at, number=7):
+    """A client's query, so many seconds after the first."""
+    at = (NOW + at) * MICROSECONDS
+    return Seen(at, Peer(CLIENT, 4000), Peer(RESOLVER, 53), query(number=number))
+
+
+@pytest.mark.parametrize("odd", [2**60, -NOW - 1])
+def test_a_time_that_is_no_moment_does_not_tell_who_waited(odd):
+    """Two in a row have it, of which a trace has none; the queries behind are answered at once."""
+    said = [client_asks(odd, 8), client_asks(odd, 9)]
+    for at in (0, 1):
+        one = client_asks(at)
+        said += one, Seen(one.at + 1, one.target, one.source, message(7, 0x8180, WWW))
+    assert list(Waits(TIMER).told(said)) == said
+
+
+def test_a_query_from_before_a_clock_was_set_back_holds_nothing_up():
+    said = [client_asks(HOUR, 8), *(client_asks(it, it + 10) for it in range(100))]
+    waits, most, waited = Waits(TIMER), 0, []
+    for it in waits.told(said):
+        most = max(most, len(waits.held))
+        waited.append(it.waited)
+    assert waited == [None, *[True] * 98, None, None] and most < 5 and not waits.open
 
 
 def test_a_timer_changes_modes_alone(small):

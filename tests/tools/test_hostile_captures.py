@@ -193,6 +193,11 @@ def frame_of(body):
     return START + len(body).to_bytes(4, "big") + body
 
 
+def fragment_again(count):
+    """The last fragment of a datagram, so many times, and no other one."""
+    return [(NOW, made.ip4(SERVER, RESOLVER, 17, bytes(8), start=8))] * count
+
+
 def exchanged(made_of, count):
     return on_ethernet([it for at in range(count) for it in exchange(at, made_of(at))])
 
@@ -205,6 +210,7 @@ HARMFUL = {
     "nested": (lambda: made.pcap([(NOW, nested(3_000))] * 20), 0),
     "VLAN tags": (lambda: made.pcap([(NOW, tagged(64_000))] * 4, 113), 1),
     "headers": (lambda: made.pcap([(NOW, extended())] * 10), 0),
+    "a fragment again": (lambda: made.pcap(fragment_again(100_000), RAW), 0),
     "a long number": (lambda: frame_of(b"\x08" + b"\xff" * 1_000_000), 0),
 }
 

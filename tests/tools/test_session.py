@@ -77,13 +77,14 @@ def test_the_options_that_the_document_names_are_there():
 
 
 def test_what_the_document_says_of_a_bound_is_the_bound():
-    from tools.captures import traffic
+    from tools.captures import traffic, waits
     with patch("sys.argv", ["from-capture"]):
         command = runpy.run_path(str(TOP / "bin" / "from-capture"))
     for number, text in ((traffic.SERVERS_MOST, "Of each NS RRset, at most {:,} names are used"),
                          (traffic.GUESSED_FROM, "from the first {:,} messages"),
                          (command["LINES_MOST"], "A trace has at most {:,} lines"),
                          (traffic.TWICE_MICROSECONDS // 1_000, "seen twice within {} milliseconds"),
+                         (waits.SET_BACK // 1_000_000, "go back by more than {} seconds"),
                          (traffic.REMEMBERED // 1_000_000,
                           "failed within the preceding {} seconds")):
         assert text.format(number) in " ".join(DOCUMENT.split()), text

@@ -215,18 +215,19 @@ class Fragments:
     def add(self, at, key, start, is_last, octets):
         """The whole payload, if this fragment completes it, or None."""
         self.forget(at)
-        _, pieces, ends = self.begun.setdefault(key, (at, {}, []))
+        _, pieces, ends = self.begun.setdefault(key, (at, {}, set()))
         end = start + len(octets)
-        ends += [end] * is_last
+        if is_last:
+            ends.add(end)
         overlaps = any(it < end and start < it + len(pieces[it]) for it in pieces
                        if (it, pieces[it]) != (start, octets))
-        is_odd = len(pieces) == PIECES_MOST or len(set(ends)) > 1 or end > 65_535
+        is_odd = len(pieces) == PIECES_MOST or len(ends) > 1 or end > 65_535
         if overlaps or is_odd:
             del self.begun[key]
             self.counts["packet: fragments that do not fit together"] += 1
             return None
         pieces[start] = octets
-        if not ends or sum(map(len, pieces.values())) != ends[0]:
+        if ends != {sum(map(len, pieces.values()))}:
             return None
         del self.begun[key]
         return b"".join(pieces[it] for it in sorted(pieces))

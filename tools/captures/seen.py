@@ -2,6 +2,8 @@
 """What was seen in a capture of packets or of dnstap. Times are whole microseconds since 1970."""
 from typing import NamedTuple
 
+from tools.traces import MOMENT_MOST
+
 MICROSECONDS = 1_000_000
 CUT = "packet: cut off, as by the capture's snap length"
 
@@ -32,3 +34,8 @@ class Seen(NamedTuple):
     zone: bytes | None = None
     kind: str = "message"
     waited: bool | None = False
+
+    @property
+    def has_moment(self):
+        """Whether its time is a moment of a trace."""
+        return 0 <= self.at // MICROSECONDS <= MOMENT_MOST

@@ -15,7 +15,6 @@ from tools.messages import (ALIASES_MOST, ANY, CNAME, HEADER, IN, NOERROR, NOT_F
                             in_own_class, is_kept, name_at, read, sets_of, why_nothing)
 from tools.model import RECHECK
 from tools.names import ROOT, ancestors, fold, is_at_or_below, to_text
-from tools.traces import MOMENT_MOST
 
 DS, ADDRESSES = 43, (1, 28)
 # IXFR and AXFR (RFC 1995, RFC 5936).
@@ -171,7 +170,7 @@ class Traffic:
     def lines(self, seen):
         """The lines that messages make."""
         for it in self.guessed(seen):
-            if not 0 <= it.at // MICROSECONDS <= MOMENT_MOST:
+            if not it.has_moment:
                 self.counts["message: its time is no moment of a trace"] += 1
                 continue
             if it.at < self.latest - MICROSECONDS:
@@ -207,9 +206,12 @@ class Traffic:
         """Whether the same packet was seen just before, as on two interfaces."""
         key = hash((it.source, it.target, it.octets))
         drop_first(self.recent, TWICE_MOST, lambda at: it.at - at > TWICE_MICROSECONDS)
-        if key in self.recent:
+        # Where a clock was set back, what is old may be behind a later time, and not yet taken out.
+        last = self.recent.get(key)
+        if last is not None and abs(it.at - last) <= TWICE_MICROSECONDS:
             self.counts["message: the same again within 10 milliseconds"] += 1
             return True
+        self.recent.pop(key, None)
         self.recent[key] = it.at
         return False
 
