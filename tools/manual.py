@@ -70,7 +70,8 @@ CALLS = {
 TYPES = {
     "rrcache": r'extern "C" \{\n#endif\n(.*?)'
                r"(?:/\* ---- |/\* (?:(?!\*/).)*? \*/\nRRCACHE_API |#ifdef __cplusplus)",
-    "rrcache_shelf": r"(/\* What calls return\. \*/.*?)/\* ---- The functions of the library",
+    "rrcache_shelf": r"(/\* The statuses that calls return\. \*/.*?)"
+                     r"/\* ---- The functions of the library",
 }
 
 
