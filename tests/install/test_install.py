@@ -8,6 +8,7 @@ exports and man pages have to fit. What is uninstalled leaves the folder as it w
 """
 import os
 import re
+import resource
 import shutil
 import subprocess
 
@@ -62,6 +63,22 @@ def test_cmake(version, it, tmp_path):
 def test_cmake_refuses_another_version(version, it, tmp_path):
     with pytest.raises(subprocess.CalledProcessError):
         it.by_cmake(version, tmp_path)
+
+
+@HAS_CMAKE
+@pytest.mark.parametrize("below", ["", "usr"])
+def test_cmake_with_libraries_below_a_link(below, tmp_path):
+    """A link that changes the depth, as /lib does that leads to /usr/lib. CMake finds the library
+    without the link, and with it after all was moved."""
+    root, moved = tmp_path / "root", tmp_path / "farther" / "moved"
+    (root / "usr" / "lib").mkdir(parents=True)
+    (root / "lib").symlink_to("usr/lib")
+    said(INSTALL, "--libdir", root / "lib", root / below)
+    for it in (tmp_path / "before", tmp_path / "after", moved.parent):
+        it.mkdir()
+    assert set(Place(root / "usr").by_cmake(VERSION, tmp_path / "before").values()) == {FIRST}
+    root.rename(moved)
+    assert set(Place(moved).by_cmake(VERSION, tmp_path / "after").values()) == {FIRST}
 
 
 def test_readme():
@@ -163,6 +180,46 @@ def test_uninstall_removes_an_older_version(tmp_path):
     older.touch()
     with (prefix / "share" / "rrcache" / "installed").open("a") as record:
         record.write(f"{older}\n")
+    said(INSTALL, "--uninstall", prefix)
+    assert content(tmp_path) == set()
+
+
+def test_uninstall_that_failed_can_be_repeated(tmp_path):
+    """Its list goes last, in whichever order the other files go."""
+    prefix = tmp_path / "new"
+    said(INSTALL, prefix)
+    older, record = prefix / "lib" / "librrcache.so.1.9.9", prefix / "share/rrcache/installed"
+    older.touch()
+    listed = f"{record.read_text()}{older}\n"
+    record.write_text(f"{listed}/proc/version\n")  # which nobody can remove
+    for seed in range(8):
+        ran = subprocess.run([INSTALL, "--uninstall", prefix], capture_output=True, text=True,
+                             env={**os.environ, "PYTHONHASHSEED": str(seed)})
+        assert ran.returncode == 2 and ran.stderr.startswith("install-c: /proc/version: ")
+        assert record.exists()
+    record.write_text(listed)
+    said(INSTALL, "--uninstall", prefix)
+    assert content(tmp_path) == set()
+
+
+@pytest.mark.parametrize("most", [0, 1 << 16], ids=["list", "library"])
+def test_uninstall_removes_what_a_run_made_that_failed(most, tmp_path):
+    """Where no file can have more octets than these, as on a disk that is full: the list cannot be
+    written, or the library, which is larger."""
+    def fail():
+        ran = subprocess.run([INSTALL, prefix], capture_output=True, text=True,
+                             preexec_fn=lambda: resource.setrlimit(resource.RLIMIT_FSIZE,
+                                                                   (most, most)))
+        assert ran.returncode == 1 and ran.stderr == "install-c: File too large\n"
+
+    prefix = tmp_path / "new"
+    for words in ([], ["--strip"]):
+        fail()
+        said(INSTALL, *words, prefix)
+        said(INSTALL, "--uninstall", prefix)
+        assert content(tmp_path) == set()
+    fail()
+    assert (content(tmp_path) == set()) is (most == 0)
     said(INSTALL, "--uninstall", prefix)
     assert content(tmp_path) == set()
 

@@ -96,15 +96,18 @@ def folders(tree):
 
 def put(path, it):
     """Installs a file or a link as `install` does: a new one takes the place of the old one at
-    once."""
+    once. If that fails, nothing is left of the new one."""
     new = path.with_name(f".{path.name}.new")
     new.unlink(missing_ok=True)
-    if isinstance(it, Link):
-        new.symlink_to(it.target)
-    else:
-        new.write_bytes(it.octets)
-        new.chmod(it.mode)
-    new.replace(path)
+    try:
+        if isinstance(it, Link):
+            new.symlink_to(it.target)
+        else:
+            new.write_bytes(it.octets)
+            new.chmod(it.mode)
+        new.replace(path)
+    finally:
+        new.unlink(missing_ok=True)
 
 
 def write(root, tree, moment):

@@ -59,10 +59,11 @@ def for_pkg_config(prefix, libdir):
     return text(told.replace(f"libdir={prefix}/", "libdir=${prefix}/"))
 
 
-def for_cmake(prefix, libdir) -> Tree:
-    """What `find_package(rrcache)` reads."""
+def for_cmake(prefix, libdir, real=str) -> Tree:
+    """What `find_package(rrcache)` reads. It goes to the headers from its own folder as that is
+    without links, so `real` has to follow the links of a path, if there may be some."""
     folder = f"{libdir}/cmake/rrcache"
-    include = posixpath.relpath(f"{prefix}/include", folder)
+    include = posixpath.relpath(f"{real(f'{prefix}/')}/include", real(folder))
     config = template("rrcache-config.cmake", INCLUDE=include, SHARED=SHARED, SONAME=SONAME)
     version = template("rrcache-config-version.cmake", VERSION=VERSION, MAJOR=MAJOR)
     return {f"{folder}/rrcache-config.cmake": text(config),
