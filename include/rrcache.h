@@ -9,8 +9,9 @@
    that both headers use, such as *key* and *entry*, are defined in rrcache_shelf.h.
 
    The section "A caller's checklist" of SECURITY.md lists what a resolver itself has to do. The
-   program examples/stub.c is a complete stub resolver that uses a `struct rrcache`. A process may
-   open several caches, for example one for each view. Each cache has its own seed and limits.
+   program examples/stub.c is a complete stub resolver that uses a `struct rrcache`. The program
+   examples/iterate.c uses one to follow delegations from the root servers. A process may open
+   several caches, for example one for each view. Each cache has its own seed and limits.
 
    Threads
    - The library starts no threads.

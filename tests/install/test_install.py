@@ -2,8 +2,8 @@
 """The C library as bin/install-c installs it to a fresh folder.
 
 What pkg-config prints, and what CMake finds, is enough to compile the examples: that of shelves in
-C and in C++, with the shared library and with the archive, which is run too, the stub resolver
-(tests/c runs that) and the forwarder. README.md has a part of lookup.c. Versions, soname,
+C and in C++, with the shared library and with the archive, which is run too, two resolvers (tests/c
+runs those) and the forwarder. README.md has a part of lookup.c. Versions, soname,
 exports and man pages have to fit. What is uninstalled leaves the folder as it was.
 """
 import os
@@ -40,9 +40,10 @@ def test_example(language, linkage, it, tmp_path):
 
 @HAS_PKG_CONFIG
 @pytest.mark.parametrize("linkage", LINKAGES)
-def test_stub(linkage, it, tmp_path):
-    said("cc", "-std=gnu11", *WARNINGS, EXAMPLES / "stub.c", *it.linked(linkage), "-o",
-         tmp_path / "stub")
+@pytest.mark.parametrize("name", ["stub", "iterate"])
+def test_resolvers(name, linkage, it, tmp_path):
+    said("cc", "-std=gnu11", *WARNINGS, EXAMPLES / f"{name}.c", *it.linked(linkage), "-lresolv",
+         "-o", tmp_path / name)
 
 
 @HAS_PKG_CONFIG
