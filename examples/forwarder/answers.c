@@ -76,26 +76,45 @@ enum rrcache_kind look_up(const struct question *question, enum rrcache_mode mod
                                                                                CNAME record */
 }
 
-/* Clears the data that a negative answer denies, so they do not come back when the answer expires,
-   neither fresh nor stale. Of an NXDOMAIN with AA set, the library has done so, for the types of
-   addresses, of aliases and of the question. But upstreams are resolvers, which clear AA. A NODATA
-   denies that the name is an alias, unless it is of type CNAME itself. */
-static void clear_denied(uint16_t type, const struct rrcache_answer *answer,
-                         const struct rrcache_parsed_set *soa)
+/* Whether a response is a negative answer. If it has no suitable SOA record, only its kind says so
+   (RFC 2308 section 2). */
+static bool denies(const struct rrcache_summary *summary, const struct rrcache_answer *answer)
 {
-    const uint16_t types[] = {CNAME, A, AAAA, type};
-    size_t count = answer->kind == RRCACHE_NXDOMAIN ? 4 : type != CNAME;
+    bool is_negative =
+        summary->kind == RRCACHE_RESPONSE_NXDOMAIN || summary->kind == RRCACHE_RESPONSE_NODATA;
+    return answer->kind == RRCACHE_NXDOMAIN || answer->kind == RRCACHE_NODATA
+           || (answer->kind == RRCACHE_MISS && is_negative);
+}
+
+/* Clears the data that a negative answer denies, so they do not come back when the answer expires,
+   neither fresh nor stale. Of an NXDOMAIN with AA set and an SOA record, the library has done so,
+   for the types of addresses, of aliases and of the question. But upstreams are resolvers, which
+   clear AA, and some send no SOA record. A NODATA denies that the name is an alias, and data of the
+   type of the question. If it has an SOA record, it is stored in place of these data, and has to
+   stay. The rank is that of the negative answer. */
+static void clear_denied(const struct question *question, const struct rrcache_summary *summary,
+                         const struct rrcache_answer *answer)
+{
+    static const uint8_t SOA[22] = {0}; /* of any content, because it is not stored */
+    const struct rrcache_name *end = &answer->end;
+    const uint16_t types[] = {CNAME, question->type, A, AAAA};
+    bool is_own = is_same_name(end->octets, end->size, question->name, question->size);
+    size_t count = summary->rcode == NXDOMAIN ? 4 : 2;
+    if (answer->kind == RRCACHE_NODATA)
+        count = question->type != CNAME;
     for (size_t i = 0; i < count; i++) {
-        const struct rrcache_negative denied = {.name = answer->end.octets,
-                                                .name_size = answer->end.size,
+        const struct rrcache_negative denied = {.name = end->octets,
+                                                .name_size = end->size,
                                                 .rtype = types[i],
                                                 .rclass = RRCACHE_IN,
                                                 .kind = RRCACHE_NODATA,
-                                                .trust = RRCACHE_NON_AUTHORITATIVE_ANSWER,
-                                                .soa_owner = soa->owner,
-                                                .soa_owner_size = soa->owner_size,
-                                                .soa = soa->data + LENGTH,
-                                                .soa_size = soa->data_size - LENGTH};
+                                                .trust = summary->aa && is_own
+                                                             ? RRCACHE_AUTHORITATIVE_ANSWER
+                                                             : RRCACHE_NON_AUTHORITATIVE_ANSWER,
+                                                .soa_owner = ROOT,
+                                                .soa_owner_size = sizeof ROOT,
+                                                .soa = SOA,
+                                                .soa_size = sizeof SOA};
         uint32_t outcome;
         rrcache_store_negative(cache, &denied, &outcome); /* with TTL 0 it stores nothing */
     }
@@ -159,8 +178,8 @@ const struct reply *keep(const struct question *question, const uint8_t *message
         refuse(replies, SERVFAIL);
         return replies + is_found(look_up(question, RRCACHE_NO_STALE, replies + 1));
     }
-    if (is_good && (answer.kind == RRCACHE_NXDOMAIN || answer.kind == RRCACHE_NODATA))
-        clear_denied(question->type, &answer, &replies->sets[replies->count - 1]); /* the SOA */
+    if (is_good && denies(&report.summary, &answer))
+        clear_denied(question, &report.summary, &answer);
     else if (is_good && answer.kind == RRCACHE_MISS)
         add_rest(replies, question->type, &answer.end, replies + 1);
     return replies;

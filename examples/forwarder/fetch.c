@@ -45,11 +45,12 @@ struct fetch {
        change. */
     struct query query; /* the query that was sent last */
     struct fetcher *fetcher;
-    bool is_live;  /* false if the place is free */
-    bool was_sent; /* to any upstream */
+    bool is_live; /* false if the place is free */
     unsigned client, domain, turn, tries;
     unsigned asked, refused;   /* bits of the upstreams that this socket asked, and of those that
                                   refused */
+    unsigned reached, lacking; /* bits of those to which any query was sent, and of those to which
+                                  this system could not send one */
     unsigned plain;            /* bits of those that get no OPT record for this question */
     struct upstream *upstream; /* the upstream that was asked last */
     uint64_t began, try_ends, late_at;
@@ -249,6 +250,16 @@ static void begin_try(struct fetch *fetch)
     fetch->try_ends = milliseconds() + time;
 }
 
+/* Whether a call failed because of this system, which may lack a buffer, or an address or a route
+   while it is off the network. It may also forbid the call, by a firewall (EPERM) or by a route
+   that is unreachable, prohibit or blackhole (EHOSTUNREACH, EACCES and EINVAL). */
+static bool is_lack(void)
+{
+    return errno == EAGAIN || errno == EADDRNOTAVAIL || errno == ENOBUFS || errno == ENOMEM
+           || errno == ENETUNREACH || errno == ENETDOWN || errno == EPERM || errno == EHOSTUNREACH
+           || errno == EACCES || errno == EINVAL;
+}
+
 /* Sends the query. Over TCP the length precedes the query, and both fit into an empty buffer. A
    call may return an error of an older datagram. Then it is made again. */
 static bool send_query(struct fetch *fetch)
@@ -269,6 +280,10 @@ static bool send_query(struct fetch *fetch)
     for (int i = 0; i < 2 && sent < 0; i++)
         sent = sendto(fetch->sock, octets + skipped, size, MSG_NOSIGNAL | MSG_DONTWAIT,
                       to == NULL ? NULL : &to->any, to == NULL ? 0 : address_size(to));
+    if (sent < 0 && is_lack())
+        fetch->lacking |= fetch->upstream->bit;
+    else if (sent >= 0)
+        fetch->reached |= fetch->upstream->bit;
     return sent == (ssize_t)size;
 }
 
@@ -294,31 +309,29 @@ static void leave_out(struct fetch *fetch, const struct upstream *upstream)
     fetch->tries -= upstream == fetch->upstream;
 }
 
-/* Whether a call failed because this system lacks something, as an address or a route while it is
-   off the network. */
-static bool is_lack(void)
+/* Whether this system is the cause if no upstream has answered: it could send no query, or it could
+   send none to an upstream to which it had sent one before. What it lacks for one upstream all the
+   time it may have for another: a host with IPv6 turned off still has an IPv4 address. Then the
+   failure is that of the other upstreams. */
+static bool is_cut_off(const struct fetch *fetch)
 {
-    return errno == EAGAIN || errno == EADDRNOTAVAIL || errno == ENOBUFS || errno == ENOMEM
-           || errno == ENETUNREACH || errno == ENETDOWN;
+    bool has_lost = (fetch->lacking & fetch->reached) != 0;
+    return has_lost || (fetch->lacking != 0 && fetch->reached == 0);
 }
 
 /* Asks the next upstream by UDP. If all tries failed, the failure is stored. It is not stored if
    this system had no socket, port, buffer or route, because that is not a failure of the servers of
-   the name. What the system lacks for one upstream it may have for another: a host with IPv6 turned
-   off still has an IPv4 address. Then the failure is that of the other upstreams. */
+   the name. */
 static void ask_next(struct fetch *fetch)
 {
-    bool is_open = true, lacks = false;
+    bool is_open = true;
     while (is_open && (fetch->upstream = next_upstream(fetch)) != NULL) {
         is_open = open_socket(fetch);
-        if (is_open && send_query(fetch)) {
-            fetch->was_sent = true;
+        if (is_open && send_query(fetch))
             return;
-        }
-        lacks |= !is_open || is_lack();
         leave_out(fetch, fetch->upstream);
     }
-    if (!lacks || (is_open && fetch->was_sent)) {
+    if (is_open && !is_cut_off(fetch)) {
         count(FAILURES, 1);
         remember_failure(&fetch->query.question);
     }
@@ -349,9 +362,8 @@ static void upgrade(struct fetch *fetch)
             || errno == EINPROGRESS))
         return;
     if (fetch->sock < 0 || is_lack())
-        give_up(fetch);
-    else
-        refused(fetch, fetch->upstream);
+        fetch->lacking |= fetch->upstream->bit;
+    refused(fetch, fetch->upstream);
 }
 
 /* Asks the upstream again on the same socket, without an OPT record (RFC 6891 section 6.2.2). */

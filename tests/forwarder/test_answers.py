@@ -76,15 +76,16 @@ def test_negative(forwarder):
     assert it.counters()["negative"] == 3
 
 
+@pytest.mark.parametrize("authority", [["example 1 SOA ns.example host.example 1 2 3 4 1"], []],
+                         ids=["soa", "nothing"])
 @pytest.mark.parametrize("flags", [AA | RA, RA])
-def test_what_was_denied_does_not_come_back(forwarder, flags):
+def test_what_was_denied_does_not_come_back(forwarder, flags, authority):
     """An NXDOMAIN denies the name, for all types (RFC 2308 section 5), also where it has AA clear,
-    as those of resolvers. Once it is over the upstream is asked, though the old address had more
-    time left."""
-    soa = "example 1 SOA ns.example host.example 1 2 3 4 1"
+    as those of resolvers, or no SOA record. Once it is over the upstream is asked, though the old
+    address had more time left."""
     it = forwarder(server := Server(told(f"{{}} 300 A {address(1)}", flags=flags)))
     assert data(it.ask("a1.example")) == [address(1)]
-    server.answer = told(authority=[soa], rcode=NXDOMAIN, flags=flags)
+    server.answer = told(authority=authority, rcode=NXDOMAIN, flags=flags)
     for rtype in ("TXT", "A"):
         assert it.ask("a1.example", rtype).rcode() == NXDOMAIN
     server.answer = told(f"{{}} 300 A {address(2)}", flags=flags)
@@ -243,6 +244,17 @@ def test_alias_whose_rest_is_in_the_cache(forwarder, ttl, target, rcode):
     assert (reply.rcode(), data(reply, "CNAME")) == (rcode, [f"{target}."])
     assert (data(reply), counts(reply)[1]) == (data(rest), counts(rest)[1])
     assert server.times(target) == 1
+
+
+def test_alias_whose_end_is_denied_with_no_soa_record(forwarder):
+    """The address that the cache has is older than the denial, so it is not added to the alias."""
+    it = forwarder(server := Server())
+    assert data(it.ask("a1.example")) == [address(1)]
+    server.answer = told(*aliases(["b.example", "a1.example"]), rcode=NXDOMAIN)
+    for _ in range(2):
+        reply = it.ask("b.example")
+        assert (reply.rcode(), data(reply, "CNAME")) == (NXDOMAIN, ["a1.example."])
+        assert data(reply) == []
 
 
 @pytest.mark.parametrize("rcode, lines", [

@@ -1,5 +1,6 @@
 # SPDX-License-Identifier: MIT
 """Stale answers (RFC 8767), and failures that are remembered (RFC 2308 section 7)."""
+import errno
 import os
 import time
 
@@ -8,11 +9,20 @@ from dns.flags import AA, RA
 from dns.rcode import NOERROR, NXDOMAIN, REFUSED, SERVFAIL
 
 from tests.forwarder.harness import (BUILD, MOST_SECONDS, Server, address, aliases, data, plain,
-                                     silent, told, took, under)
+                                     silent, told, took, truncated, under)
 
 # In less than these seconds there is an answer that is not waited for: it is late after 1.8, and
 # the tries end after 3.8.
 SOON = 1.7
+SHORT_SOA = "example 1 SOA ns.example host.example 1 2 3 4 1"
+# The authority sections of negative answers. A resolver may send none, as dnsmasq does.
+DENIALS = pytest.mark.parametrize("authority", [[SHORT_SOA], []], ids=["soa", "nothing"])
+
+
+def with_refusals(**setting):
+    """The environment of a program that is refused what it says (refusals.c)."""
+    words = {name: str(it) for name, it in setting.items()}
+    return {**os.environ, **words, "LD_PRELOAD": str(BUILD / "refusals.so")}
 
 
 def test_stale_while_no_upstream_answers(forwarder):
@@ -56,17 +66,19 @@ def test_stale_aliases(forwarder):
         assert [it.ttl for it in reply.answer] == [30, 30]
 
 
-@pytest.mark.parametrize("names", [["c.example"], ["c.example", "b.example"]])
-def test_what_was_denied_is_not_stale(forwarder, names):
+@DENIALS
+@pytest.mark.parametrize("names, rcode", [
+    (["c.example"], NXDOMAIN), (["c.example", "b.example"], NXDOMAIN), (["c.example"], NOERROR)])
+def test_what_was_denied_is_not_stale(forwarder, names, rcode, authority):
     """A resolver says that a name is gone which had an address, or was an alias that leads to it,
-    and then it fails. The address is older than that, so no client gets it."""
-    soa = "example 1 SOA ns.example host.example 1 2 3 4 1"
+    or that it has no address any more, and then it fails. The address is older than that, so no
+    client gets it."""
     lines = aliases(names, 1)
     it = forwarder(server := Server(told(*lines, f"{names[-1]} 1 A {address(1)}")))
     assert data(it.ask("c.example")) == [address(1)]
     time.sleep(2.2)
-    server.answer = told(*lines, authority=[soa], rcode=NXDOMAIN)
-    assert it.ask("c.example").rcode() == NXDOMAIN
+    server.answer = told(*lines, authority=authority, rcode=rcode)
+    assert it.ask("c.example").rcode() == rcode
     time.sleep(2.2)
     server.answer = told(rcode=SERVFAIL)
     for name in names * 2:
@@ -74,16 +86,16 @@ def test_what_was_denied_is_not_stale(forwarder, names):
         assert (reply.rcode(), data(reply)) == (SERVFAIL, [])
 
 
+@DENIALS
 @pytest.mark.parametrize("flags", [AA | RA, RA])
-def test_alias_that_was_denied_is_not_stale(forwarder, flags):
+def test_alias_that_was_denied_is_not_stale(forwarder, flags, authority):
     """A name was an alias, and then has no address, so it is no alias. That it has no CNAME record
     is kept, if it was asked for."""
-    soa = "example 1 SOA ns.example host.example 1 2 3 4 1"
     lines = [*aliases(["c.example", "b.example"], 1), f"b.example 1 A {address(1)}"]
     it = forwarder(server := Server(told(*lines, flags=flags)))
     assert data(it.ask("c.example")) == [address(1)]
     time.sleep(2.2)
-    server.answer = told(authority=[soa], flags=flags)
+    server.answer = told(authority=authority, flags=flags)
     assert it.ask("c.example").rcode() == NOERROR
     time.sleep(2.2)
     server.answer = told(rcode=SERVFAIL)
@@ -116,11 +128,48 @@ def test_failure_is_remembered(forwarder):
 def test_no_port_is_no_failure_that_is_remembered(forwarder):
     """The first 32 ports are refused, 8 for a question: that is no failure of the names'
     servers."""
-    it = forwarder(server := Server(), environment={
-        **os.environ, "LD_PRELOAD": str(BUILD / "refusals.so"), "REFUSED_PORTS": "32"})
+    it = forwarder(server := Server(), environment=with_refusals(REFUSED_PORTS=32))
     for rcode in [SERVFAIL] * 4 + [NOERROR]:
         assert it.ask("a1.example").rcode() == rcode
     assert (it.counted("failed", "failures"), len(server.asked)) == ([4, 0], 1)
+
+
+# The errors of a datagram that this host does not send: a firewall drops it, no route leads to its
+# address, or a route that is unreachable, prohibit or blackhole (ip-route(8)).
+LACKS = [errno.EPERM, errno.ENETUNREACH, errno.EHOSTUNREACH, errno.EACCES, errno.EINVAL]
+
+
+@under("forwarder")
+@pytest.mark.parametrize("lack", LACKS, ids=errno.errorcode.get)
+def test_what_cannot_be_sent_is_no_failure_that_is_remembered(forwarder, lack):
+    it = forwarder(server := Server(), environment=with_refusals(UNSENT=lack))
+    for _ in range(2):
+        assert it.ask("a1.example").rcode() == SERVFAIL
+    assert (it.counted("sent", "failures"), server.asked) == ([2, 0], [])
+
+
+@under("forwarder")
+@pytest.mark.parametrize("count", [1, 2])
+def test_route_that_is_lost_is_no_failure_that_is_remembered(forwarder, count):
+    """The first query is sent, and its answer is lost. Then this host has no route, not even to the
+    upstream that it asked."""
+    environment = with_refusals(UNSENT=errno.ENETUNREACH, SENT=1)
+    it = forwarder(*(Server(silent) for _ in range(count)), environment=environment)
+    for _ in range(2):
+        reply, seconds = took(it.ask, "a1.example")
+        assert reply.rcode() == SERVFAIL and seconds < SOON
+    assert it.counted("sent", "failures") == [1 + 2 * count, 0]
+
+
+@under("forwarder")
+def test_connection_that_cannot_be_made_is_no_failure_that_is_remembered(forwarder):
+    """The answer of each upstream is cut, and this host makes no connection to get the rest. Each
+    is asked, as the next one's answer may be whole."""
+    servers = [Server(lambda _, asked, name: [truncated(asked)]) for _ in range(2)]
+    it = forwarder(*servers, environment=with_refusals(UNCONNECTED=errno.EACCES))
+    for _ in range(2):
+        assert it.ask("a1.example").rcode() == SERVFAIL
+    assert it.counted("sent", "failures") == [4, 0]
 
 
 def test_upstream_that_refuses_is_asked_once(forwarder):
