@@ -213,10 +213,11 @@ bool is_unkept(uint16_t rtype, uint16_t rclass);
 
 /* Appends to an answer the records of a response that are not kept: those in the answer section
    with the type of the query (any type if that is ANY) and with the name that the answer has
-   reached. Returns RRCACHE_BAD_DATA if one of them cannot be read. */
+   reached. Returns RRCACHE_BAD_DATA if the data of one of them cannot be read. Sets `is_whole` to
+   false if the owner of a record of such a type cannot be read: too many pointers lead to it. */
 enum rrcache_status put_unkept(const struct rrcache *cache, const struct rrcache_query *query,
                                const struct rrcache_response *response, bool aa,
-                               struct rrcache_answer *answer);
+                               struct rrcache_answer *answer, bool *is_whole);
 
 /* Whether a name has a record of a type in the answer section or the authority section of a
    response, even if no RRset of it is offered. */

@@ -334,13 +334,14 @@ static enum rrcache_status put_rest(const struct said *said, const struct rrcach
                                     struct rrcache_answer *answer)
 {
     size_t before = answer->size;
+    bool is_whole;
     if (!may_have_rest(said, response, answer))
         return RRCACHE_DONE;
     enum rrcache_status status =
-        put_unkept(said->cache, query, response, said->summary->aa, answer);
+        put_unkept(said->cache, query, response, said->summary->aa, answer, &is_whole);
     if (status == RRCACHE_DONE && answer->size != before)
         answer->kind = RRCACHE_FRESH;
-    bool may_be_denied = answer->kind == RRCACHE_MISS && said->summary->rcode == 0
+    bool may_be_denied = answer->kind == RRCACHE_MISS && is_whole && said->summary->rcode == 0
                          && said->summary->kind != RRCACHE_RESPONSE_ANSWER; /* all left out */
     if (status == RRCACHE_DONE && may_be_denied)
         status = put_absence(said, query, response, answer);

@@ -189,29 +189,32 @@ static bool is_wanted(const struct rrcache_query *query, const struct record *re
            && (record->rtype == query->rtype || query->rtype == ANY);
 }
 
-/* Appends a record to an answer if its owner is the name that was reached. */
+/* Appends a record to an answer if its owner is the name that was reached. If the owner cannot be
+   read, the record is left out. */
 static enum rrcache_status put_if_reached(const struct rrcache *cache,
                                           const struct rrcache_response *response, bool aa,
                                           const struct record *record,
-                                          struct rrcache_answer *answer)
+                                          struct rrcache_answer *answer, bool *is_whole)
 {
     struct owner owner;
-    if (!read_owner(response, record, &owner))
-        return RRCACHE_BAD_DATA;
-    return is_name(cache, &owner, &answer->end) ? put_record(response, aa, record, &owner, answer)
-                                                : RRCACHE_DONE;
+    bool is_read = read_owner(response, record, &owner);
+    *is_whole &= is_read;
+    return is_read && is_name(cache, &owner, &answer->end)
+               ? put_record(response, aa, record, &owner, answer)
+               : RRCACHE_DONE;
 }
 
 enum rrcache_status put_unkept(const struct rrcache *cache, const struct rrcache_query *query,
                                const struct rrcache_response *response, bool aa,
-                               struct rrcache_answer *answer)
+                               struct rrcache_answer *answer, bool *is_whole)
 {
     struct record record = {.end = HEADER + query->name_size + 4};
     uint32_t left = number_at(response->octets + 6, 2);
     enum rrcache_status status = RRCACHE_DONE;
+    *is_whole = true;
     for (; left > 0 && status == RRCACHE_DONE && read_record(response, record.end, &record); left--)
         if (is_wanted(query, &record))
-            status = put_if_reached(cache, response, aa, &record, answer);
+            status = put_if_reached(cache, response, aa, &record, answer, is_whole);
     return status;
 }
 
