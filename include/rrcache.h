@@ -87,9 +87,9 @@
      set `keys` too, to reduce the size of the second filter.
    - A cache has at most 64 shelves with at most 65,536 keys each, and so at most 4,194,304 keys. An
      RRset of one address record with a short owner name uses 320 octets, so a cache holds at most
-     about 1.3 GB of such RRsets, even if `octets` is larger. For a million names, each with one A
-     and one AAAA record, 640 MB are needed. An NS RRset of two short names uses 432 octets, and a
-     negative answer with an SOA record of 61 octets of rdata uses 477 octets.
+     about 1.3 GB of such RRsets, even if `octets` is larger. A million names, each with one A and
+     one AAAA record, need 640 MB. An NS RRset of two short names uses 432 octets, and a negative
+     answer with an SOA record of 61 octets of rdata uses 477 octets.
    - The configuration of an open cache cannot be changed. The library returns freed memory to
      malloc, and malloc decides whether to return this memory to the operating system.
    - An RRset that would use more memory than its shelf's share of `octets` is not stored. In tests,
@@ -294,13 +294,13 @@ enum { RRCACHE_STATS_OCTETS = 384 };
 
 /* The callback to which `rrcache_stop_recording_all` and `rrcache_dump` write. In each call, the
    callback receives `size` octets of the text of one shelf; `shelf` is the number of that shelf,
-   counted from 0. A call may end in the middle of a line. The callback must process all these
-   octets, and must return 0 to continue or nonzero to stop. `state` is the pointer that the caller
-   passed together with the callback. During the callback, the library holds no lock of a shelf, but
-   it holds the lock that guards the start and the end of recording. If the callback called a
-   function that needs this lock, the call would never return. So the callback must not call any
-   function on this cache. The callback must return normally: it must not call `longjmp` or throw a
-   C++ exception, and its thread must not be canceled before it returns. */
+   counted from 0. The octets of a call may end in the middle of a line. The callback must process
+   all these octets, and must return 0 to continue or nonzero to stop. `state` is the pointer that
+   the caller passed together with the callback. During the callback, the library holds no lock of a
+   shelf, but it holds the lock that guards the start and the end of recording. If the callback
+   called a function that needs this lock, the call would never return. So the callback must not
+   call any function on this cache. The callback must return normally: it must not call `longjmp` or
+   throw a C++ exception, and its thread must not be canceled before it returns. */
 typedef int (*rrcache_shelf_sink)(void *state, uint64_t shelf, const void *octets, size_t size);
 
 /* Opens a cache, and stores a pointer to it in `*cache`. A null `config` means a configuration of
