@@ -147,8 +147,8 @@
      the call returns RRCACHE_BAD_MESSAGE. Whether or not the truncated message can be read, the
      caller must send the query again over TCP. A message that ends inside a record but has TC clear
      also causes RRCACHE_BAD_MESSAGE. So the caller must check TC before it treats
-     RRCACHE_BAD_MESSAGE as a failure of the server. Over TCP, a length of two octets precedes each
-     message: do not pass these two octets to the library.
+     RRCACHE_BAD_MESSAGE as a failure of the server. Over TCP, a two-octet length field precedes
+     each message: do not pass this field to the library.
    - Nothing from a message is offered if its opcode is not QUERY, if the class of its question is
      not kept, or if the name of its question is out of bailiwick.
    - The kept classes are IN, CH and HS (RFC 1035 section 3.2.4). docs/RULES.md lists the kept
@@ -197,8 +197,8 @@
      whole TTL of the entry. The field `age` of `struct rrcache_entry` is not this age, but a number
      of uses.
    - An entry has expired when its age is at least its TTL. An entry is *fully expired* when it can
-     no longer answer. A negative answer or a failure is fully expired as soon as it has expired,
-     and an RRset `max_stale` seconds after it has expired.
+     no longer answer. A negative answer or a failure is fully expired as soon as it has expired. An
+     RRset is fully expired `max_stale` seconds after it has expired.
    - If the caller's clock is set back by a number of seconds, all cached data expire that many
      seconds too late. Data that had expired, but have not yet been replaced, cleared, evicted or
      swept, may answer again, and may prevent data of lower rank from being stored. If the clock is
@@ -345,7 +345,7 @@ enum rrcache_status {
                                      reports the reason */
     RRCACHE_BAD_CHOICE = 11,      /* the number of a purpose, mode, kind, trust, section or RCODE is
                                      not valid */
-    RRCACHE_BAD_TYPE = 12,        /* in an offer: data of the type are not kept in the class
+    RRCACHE_BAD_TYPE = 12,        /* in an offer: data of its type are not kept in its class
                                      (docs/RULES.md lists the kept types). In a question: its class
                                      is not kept, or its type is 0. In a parsed response or its
                                      query: a class or a type is 0 */
@@ -440,9 +440,10 @@ enum rrcache_outcome { RRCACHE_KEPT = 1, RRCACHE_CLEARED = 2, RRCACHE_OUTRANKED 
 
 /* The kind of a response from a server of a zone: what the response means for its question (RFC
    1034 section 5.3.3). In the comments below, *the type* is the type of the question. *The name* is
-   the name of the question or, if CNAME records of the response lead from that name to another
-   name, that other name. The library follows at most 16 CNAME records, and only as long as their
-   owners are in bailiwick. For a question of type CNAME or ANY, it follows no CNAME record. */
+   the name at the end of the CNAME chain that begins at the name of the question. If the library
+   follows no CNAME record, *the name* is the name of the question itself. The library follows at
+   most 16 CNAME records, and only as long as their owners are in bailiwick. For a question of type
+   CNAME or ANY, it follows no CNAME record. */
 enum rrcache_response_kind {
     RRCACHE_RESPONSE_ANSWER = 1,       /* the response has data of the type for the name */
     RRCACHE_RESPONSE_UNEQUAL_TTLS = 2, /* the response has data of the type for the name, but these
@@ -719,10 +720,10 @@ struct rrcache_line {
 
    The structs of this header and of rrcache.h that exported functions read or write are part of the
    ABI of the library. These structs keep their size and their fields in all versions with the same
-   soname. A later version of this header may add fields to `struct rrcache_parsed_response`,
-   because only inline functions read this struct. Exported functions of rrcache.h read or write the
-   other structs below. The inline functions of this header pass only the fields of the structs
-   below to the library, never the structs themselves. */
+   soname. The inline functions of this header pass only the fields of the structs below to the
+   library, never the structs themselves. However, exported functions of rrcache.h read or write all
+   of these structs except `struct rrcache_parsed_response`. So a later version of this header may
+   add fields to `struct rrcache_parsed_response`, but not to the other structs below. */
 
 /* The query that a response has to answer. */
 struct rrcache_query {
@@ -736,7 +737,7 @@ struct rrcache_query {
                         field, so that an attacker also has to guess the case of each letter */
 };
 
-/* A response: its octets, without the two octets of length that precede a response over TCP; the
+/* A response: its octets, without the two-octet length field that precedes a response over TCP; the
    zone whose server sent the response; the timestamp of its arrival; and the limits on how long its
    data may be cached. */
 struct rrcache_response {
@@ -1383,15 +1384,16 @@ static inline size_t rrcache_put_response(const struct rrcache_query *query,
    pointer would lead to the wrong offset in the new message. `rrcache_compose_response` does not
    check for such pointers.
 
-   Returns RRCACHE_BAD_CHOICE if `section` of a set is not a value of `enum rrcache_section` or the
-   RCODE is above 15; RRCACHE_BAD_TYPE if a type or a class is 0, in a set or in the query (RFC 6895
-   reserves type 0 and class 0); RRCACHE_BAD_NAME if an owner or the name of the query is not in
-   wire form; RRCACHE_BAD_DATA if the last rdata of a set are cut off; and RRCACHE_WRONG_BODY if a
-   set has no data. Returns RRCACHE_SMALL if the buffer is too small: the buffer is then unmodified,
-   and `size` is the required size. If the message would have more than RRCACHE_MESSAGE_OCTETS
-   octets, no buffer is large enough, and `size` is RRCACHE_MESSAGE_OCTETS + 1. The new message may
-   be too large even if the response was not, because only owners are compressed in the new message.
-   In this case, leave out the additional section. */
+   Returns RRCACHE_BAD_CHOICE if `section` of a set is not a value of `enum rrcache_section`, or if
+   the RCODE is above 15; RRCACHE_BAD_TYPE if a type or a class is 0, in a set or in the query (RFC
+   6895 reserves type 0 and class 0); RRCACHE_BAD_NAME if an owner or the name of the query is not
+   in wire form; RRCACHE_BAD_DATA if the last rdata of a set are cut off; and RRCACHE_WRONG_BODY if
+   a set has no data. Returns RRCACHE_SMALL if the buffer is too small: the buffer is then
+   unmodified, and `size` is the required size. If the message would have more than
+   RRCACHE_MESSAGE_OCTETS octets, no buffer is large enough, and `size` is
+   RRCACHE_MESSAGE_OCTETS + 1. The new message may be too large even if the response was not,
+   because only owners are compressed in the new message. In this case, leave out the additional
+   section. */
 static inline enum rrcache_status
 rrcache_compose_response(const struct rrcache_query *query,
                          const struct rrcache_parsed_response *parsed, uint8_t *buffer, size_t room,
@@ -1750,8 +1752,8 @@ rrcache_offer_message_unchecked(struct rrcache_shelf *shelf,
 
 /* Does what `rrcache_offer_message_unchecked` does, but offers only the data of names in one part.
    Parts are counted from 0. Offers for other parts are neither made nor counted. Returns
-   RRCACHE_BAD_RULES if there is no part with the number `share->part` or `parts->count` is not in
-   the range 1 to 64, RRCACHE_BAD_SEED if `parts->seed` is all zeros, and RRCACHE_OTHER_SEED if
+   RRCACHE_BAD_RULES if there is no part with the number `share->part`, or if `parts->count` is not
+   in the range 1 to 64; RRCACHE_BAD_SEED if `parts->seed` is all zeros; and RRCACHE_OTHER_SEED if
    `parts->seed` is not the seed of the shelf. The other errors are those of
    `rrcache_offer_message_unchecked`. Needs the write lock. */
 static inline enum rrcache_status
@@ -1785,10 +1787,10 @@ rrcache_offer_part_unchecked(struct rrcache_shelf *shelf, const struct rrcache_r
    given name. Replies contain the data exactly as they were offered, so the caller has to leave out
    duplicate records (RFC 2181 section 5).
 
-   Returns RRCACHE_BAD_CHOICE if `trust` is not a rank, RRCACHE_BAD_TYPE if data of the type are not
-   kept in the class, RRCACHE_BAD_NAME if the owner is not in wire form, RRCACHE_BAD_DATA if the
-   data do not match the layout of their type or are cut off, and RRCACHE_WRONG_BODY if there are no
-   data or `ttl` is above 2^31 - 1. Needs the write lock. */
+   Returns RRCACHE_BAD_CHOICE if `trust` is not a rank; RRCACHE_BAD_TYPE if data of the type are not
+   kept in the class; RRCACHE_BAD_NAME if the owner is not in wire form; RRCACHE_BAD_DATA if the
+   data do not match the layout of their type or are cut off; and RRCACHE_WRONG_BODY if there are no
+   data, or if `ttl` is above 2^31 - 1. Needs the write lock. */
 static inline enum rrcache_status
 rrcache_offer_set(struct rrcache_shelf *shelf, const struct rrcache_set *set, uint32_t *outcome)
 {
@@ -1815,7 +1817,7 @@ rrcache_offer_set(struct rrcache_shelf *shelf, const struct rrcache_set *set, ui
 
 /* Offers a negative answer (RFC 2308), which states that a name has no data of a type, or that a
    name does not exist. Writes the outcome to `outcome`. Returns RRCACHE_BAD_CHOICE if `trust` is
-   not a rank or `kind` is neither RRCACHE_NODATA nor RRCACHE_NXDOMAIN; RRCACHE_BAD_TYPE if the
+   not a rank, or if `kind` is neither RRCACHE_NODATA nor RRCACHE_NXDOMAIN; RRCACHE_BAD_TYPE if the
    class is not kept or, for RRCACHE_NODATA, if data of the type are not kept in the class;
    RRCACHE_BAD_NAME if the name or the owner of the SOA record is not in wire form; RRCACHE_BAD_DATA
    if `soa` is not the rdata of an SOA record; and RRCACHE_WRONG_BODY if `ttl` is above 2^31 - 1.
@@ -2199,7 +2201,7 @@ static inline enum rrcache_status rrcache_take_chapters(struct rrcache_shelf *sh
    RRCACHE_HISTORY_FULL or RRCACHE_MEMORY, the shelf is still recording, and `rrcache_stop_and_drop`
    can stop the recording. Needs the write lock.
 
-   If this call directly follows the call of `rrcache_record` that started the recording, the handle
+   If this call directly follows the call to `rrcache_record` that started the recording, the handle
    then holds one chapter, which has no events. The lines of this chapter list all entries of the
    shelf, so a caller can save the contents of the shelf in this way. No call restores a shelf from
    such a chapter, but a caller can offer the entries to an empty shelf, in the order of their event
@@ -2222,8 +2224,8 @@ static inline enum rrcache_status rrcache_stop_recording(struct rrcache_shelf *s
    chapter contains the number of the chapter, the number of its first event, and the rules of the
    shelf except the seed. The first line is followed by a line for each key that was cached when the
    chapter began, and then by a line for each event. The lines have the same form as in an archive
-   (docs/FORMATS.md). Returns RRCACHE_NO_CHAPTERS if the handle holds no chapters, and
-   RRCACHE_NO_LINE if the handle has no chapter `place->chapter` or the chapter has no line
+   (docs/FORMATS.md). Returns RRCACHE_NO_CHAPTERS if the handle holds no chapters. Returns
+   RRCACHE_NO_LINE if the handle has no chapter `place->chapter`, or if this chapter has no line
    `place->line`. The call allocates memory for the whole line, and frees this memory before it
    returns. Needs no lock. */
 static inline enum rrcache_status rrcache_chapter_line(struct rrcache_chapters *chapters,
@@ -2244,7 +2246,7 @@ static inline enum rrcache_status rrcache_chapter_line(struct rrcache_chapters *
 }
 
 /* Writes a line of a chapter to `sink`, from the octet `place->from` of the line to its LF. All
-   fields of `place` are counted from 0. Each call of the sink passes RRCACHE_PIECE_OCTETS octets of
+   fields of `place` are counted from 0. Each call to the sink passes RRCACHE_PIECE_OCTETS octets of
    the line, except the last call, which passes the rest. If the sink returns nonzero,
    `rrcache_write_line` writes nothing more and returns RRCACHE_SINK. The other errors are those of
    `rrcache_chapter_line`. Needs no lock. */
