@@ -402,7 +402,8 @@ RRCACHE_API bool rrcache_next(const struct rrcache_answer *answer, struct rrcach
    expires, `rrcache_lookup_delegation` finds only the NS RRset of a zone above the zone of the
    referral, or none. If `rrcache_lookup_delegation` finds no NS RRset below the zone whose server
    was queried, call `rrcache_forget` with type NS for the zone of the referral, and store the
-   response again.
+   response again. A cached negative answer for a name server hides its address in the same way:
+   call `rrcache_forget` for this name and the type of the address, and store the response again.
 
    `answer` may be null. If it is not null, the call fills `answer` with the answer that the
    response itself contains, including data that are not stored: data with TTL 0, data that are too
