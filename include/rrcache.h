@@ -74,9 +74,9 @@
      eviction. `octets` limits only the memory of the keys, and an allocator may use more memory for
      them than is counted. Therefore, plan for two and a half times `octets`, and also for the
      memory that the next item describes. The total is about 2.575 times `octets`, plus 4 octets for
-     each key that `keys` allows. For a total of 512 MiB with the default `keys`, for example, set
-     `octets` to 192 MiB. SECURITY.md reports the measurements behind the factor of two and a half,
-     and says what was not measured.
+     each key that `keys` allows (2 octets with the default `keys`). For a total of 512 MiB with the
+     default `keys`, for example, set `octets` to 192 MiB. SECURITY.md reports the measurements
+     behind the factor of two and a half, and says what was not measured.
    - In addition, `rrcache_open` allocates the places, the memos, and two filters: one of the names
      that may own a CNAME RRset, and one of the names that may have an NXDOMAIN or a failure. All
      memos together use at most 1/16 of `octets`, and at most about 460 KiB times `readers`. The
@@ -86,10 +86,12 @@
      default number of keys, the filter uses 8 MiB in all shelves together. So if `octets` is small,
      set `keys` too, to reduce the size of the second filter.
    - A cache has at most 64 shelves with at most 65,536 keys each, and so at most 4,194,304 keys. An
-     RRset of one address record with a short owner name uses 320 octets, so a cache holds at most
-     about 1.3 GB of such RRsets, even if `octets` is larger. A million names, each with one A and
-     one AAAA record, need 640 MB. An NS RRset of two short names uses 432 octets, and a negative
-     answer with an SOA record of 61 octets of rdata uses 477 octets.
+     RRset of one address record with a short owner name counts as 320 octets, so a cache holds at
+     most about 1.3 GB of such RRsets, even if `octets` is larger. A million names, each with one A
+     and one AAAA record, count as 640 MB. An NS RRset of two short names counts as 432 octets, and
+     a negative answer with an SOA record of 61 octets of rdata as 477 octets. These are counted
+     octets: by the rule above, plan for about 3.5 GB of memory instead of 1.3 GB, and for about 1.7
+     GB instead of 640 MB.
    - The configuration of an open cache cannot be changed. The library returns freed memory to
      malloc, and malloc decides whether to return this memory to the operating system.
    - An RRset that would use more memory than its shelf's share of `octets` is not stored. In tests,
