@@ -22,7 +22,7 @@ static const char USAGE[] =
     "\n"
     "  --listen ADDRESS@PORT   listens there too, at 8 addresses at most\n"
     "  --octets COUNT          the most memory for what is cached, from 1M on (64M): K, M\n"
-    "                          and G stand for KiB, MiB and GiB. Plan for 2.5 times as much\n"
+    "                          and G stand for KiB, MiB and GiB. Plan for 2.6 times as much\n"
     "                          memory, and a quarter more for what waits for answers\n"
     "  -t, --threads COUNT     so many threads, 1 to 64 (one for each processor)\n"
     "  -l, --log SECONDS       a line on standard error each so many seconds (60)\n"
