@@ -38,7 +38,9 @@
    - No call holds the locks of two shelves at the same time, so calls are not atomic across
      shelves: while one call looks up or stores data in several shelves, other calls may change
      these shelves. When `rrcache_store` stores several RRsets in one shelf, it may even release the
-     lock of that shelf between two of them.
+     lock of that shelf between two of them. However, `rrcache_lookup` is atomic if it finds no
+     CNAME record, and so are `rrcache_store_set`, `rrcache_store_negative`,
+     `rrcache_store_failure`, and `rrcache_forget` with a type other than ANY.
    - If a look-up is repeated with the same timestamp, and the name is in lower case, the library
      may copy the answer from a memo, which is a saved copy of an earlier answer. The library uses a
      memo only if nothing in the shelf of the name has changed since the earlier answer was
