@@ -2,7 +2,8 @@
 -- What the handle of a shelf holds before and after a call.
 use Rattle.std.specs.Prelude.{◌≡◌, ℕ, Option, None, Some}
 use Rattle.rrc_share.specs.CacheShelf.{CacheShelfOf}
-use Rattle.rrc_shelf.specs.Refusals.{NewDue}
+use Rattle.rrc_shelf.specs.Checks.{Due, IsDoneOrMemory}
+use Rattle.rrc_shelf.specs.Refusals.{rules_checks}
 use Rattle.rrc_shelf.specs.Shelves.{IsLeftAs}
 use Rattle.rrc_shelf.specs.declared.terms.ShelfRules.{ShelfRules}
 
@@ -38,4 +39,4 @@ OnNoShelf status fact = status ≡ 1 → fact
 -- when a shelf is made in a handle, and when that is refused with what: 2 is answered exactly where the handle holds a shelf
 abbrev pub MakingDue : ShelfRules → Option CacheShelfOf → ℕ → Type 0
 MakingDue rules (Some shelf) number = number ≡ 2
-MakingDue rules None number = NewDue rules number
+MakingDue rules None number = Due (rules_checks rules) IsDoneOrMemory number

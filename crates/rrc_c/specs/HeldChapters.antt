@@ -4,7 +4,7 @@ use Rattle.std.specs.Prelude.{◌≡◌, ℕ, List, Option, None, Some}
 use Rattle.rrc_history.specs.Chapters.{ChapterOf}
 use Rattle.rrc_share.specs.CacheShelf.{CacheShelfOf}
 use Rattle.rrc_shelf.specs.Chapters.{StopDue}
-use Rattle.rrc_shelf.specs.Refusals.{IsDoneOrMemory}
+use Rattle.rrc_shelf.specs.Checks.{IsDoneOrMemory}
 
 -- a call answers 21 exactly where the handle holds no chapters
 abbrev pub TellsNoChapters : Option (List ChapterOf) → ℕ → Type 0

@@ -3,7 +3,8 @@
 use Rattle.std.specs.Prelude.{◌≡◌, ℕ, ◌⊎◌, ◌↔◌, List, Option, None, Some}
 use Rattle.rrc_share.specs.CacheShelf.{CacheShelfOf}
 use Rattle.rrc_shelf.specs.Offered.{offer_in}
-use Rattle.rrc_shelf.specs.Readings.{ReadingRefused}
+use Rattle.rrc_shelf.specs.Checks.{Refuses}
+use Rattle.rrc_shelf.specs.Readings.{reading_checks}
 use Rattle.rrc_shelf.specs.Responses.{IsOtherAtLast, ResponseRefused}
 use Rattle.rrc_shelf.specs.declared.reading.Reading.{Reading}
 use Rattle.rrc_shelf.specs.declared.terms.ResponseTerms.{ResponseTerms}
@@ -11,7 +12,7 @@ use Rattle.rrc_shelf.specs.declared.terms.ResponseTerms.{ResponseTerms}
 -- when a message is read into a handle, and when that is refused with what: 19 is answered exactly where the handle holds offers
 abbrev pub ReadingDue : List ℕ → List ℕ → ResponseTerms → Option Reading → ℕ → Type 0
 ReadingDue octets zone terms (Some reading) number = number ≡ 19
-ReadingDue octets zone terms None number = (number ≡ 0) ⊎ ReadingRefused octets zone terms number
+ReadingDue octets zone terms None number = (number ≡ 0) ⊎ Refuses (reading_checks octets zone terms) number
 
 -- when a response is read into a handle, and when that is refused with what: 19 is answered exactly where the handle holds offers, and
 -- 20 of octets that answer no query, or another one

@@ -4,7 +4,8 @@ ghost use Rattle.rrc_shelf.specs.Statuses.{number_of_reply, OnDone, OnRefused, O
 ghost use Rattle.rrc_c.specs.Handles.{BothHold, IsKept, TellsNone};
 ghost use Rattle.rrc_shelf.specs.Aliases.{ask_or_alias};
 ghost use Rattle.rrc_shelf.specs.Asks.{asked, Answers, Shows, TellsSizeAlone};
-ghost use Rattle.rrc_shelf.specs.Refusals.{AskAliasDue, AskDue, IsQuestion, PeekAliasDue, PeekDue, StoredDue};
+ghost use Rattle.rrc_shelf.specs.Checks.{Passes};
+ghost use Rattle.rrc_shelf.specs.Refusals.{AskDue, PeekDue, StoredDue, question_checks};
 ghost use Rattle.rrc_shelf.specs.Stored.{TellsStored};
 
 use crate::handle_status::NO_SHELF;
@@ -33,8 +34,8 @@ pub extern "C" fn rrc_ask(
     ensures buffer { OnRefused result (buffer.new ≡ buffer.old) }
     ensures told { OnUntold result (told.new ≡ told.old) }
     ensures seed { handle.new.seed ≡ handle.old.seed }
-    ensures fit { OnDone result (IsQuestion name.now question.now handle.old.seed) }
-    ensures due { IfSome handle.old.held.seal.shelf (λ shelf. AskDue name.now question.now handle.old.seed (length buffer.old) shelf result) }
+    ensures fit { OnDone result (Passes (question_checks name.now question.now handle.old.seed)) }
+    ensures due { IfSome handle.old.held.seal.shelf (λ shelf. AskDue name.now question.now handle.old.seed (asked name.now question.now) (length buffer.old) shelf result) }
 {
     let seed = handle.seed;
     let Some(shelf) = handle.held.get_mut() else {
@@ -62,8 +63,8 @@ pub extern "C" fn rrc_ask_alias(
     ensures buffer { OnRefused result (buffer.new ≡ buffer.old) }
     ensures told { OnUntold result (told.new ≡ told.old) }
     ensures seed { handle.new.seed ≡ handle.old.seed }
-    ensures fit { OnDone result (IsQuestion name.now question.now handle.old.seed) }
-    ensures due { IfSome handle.old.held.seal.shelf (λ shelf. AskAliasDue name.now question.now handle.old.seed (length buffer.old) shelf result) }
+    ensures fit { OnDone result (Passes (question_checks name.now question.now handle.old.seed)) }
+    ensures due { IfSome handle.old.held.seal.shelf (λ shelf. AskDue name.now question.now handle.old.seed (ask_or_alias shelf (asked name.now question.now)) (length buffer.old) shelf result) }
 {
     let seed = handle.seed;
     let Some(shelf) = handle.held.get_mut() else {
@@ -89,8 +90,8 @@ pub extern "C" fn rrc_peek(
     ensures small { OnSmall result (BothHold look.old.look.sight.shelf look.new.look.sight.shelf (λ old new. TellsSizeAlone (asked name.now question.now) told.new buffer.old buffer.new old new)) }
     ensures buffer { OnRefused result (buffer.new ≡ buffer.old) }
     ensures told { OnUntold result (told.new ≡ told.old) }
-    ensures fit { OnDone result (IsQuestion name.now question.now look.old.seed) }
-    ensures due { IfSome look.old.look.sight.shelf (λ shelf. PeekDue name.now question.now look.old.seed (length buffer.old) shelf result) }
+    ensures fit { OnDone result (Passes (question_checks name.now question.now look.old.seed)) }
+    ensures due { IfSome look.old.look.sight.shelf (λ shelf. PeekDue name.now question.now look.old.seed (asked name.now question.now) (length buffer.old) shelf result) }
 {
     let seed = look.seed;
     let Some(glance) = look.look.take() else {
@@ -117,8 +118,8 @@ pub extern "C" fn rrc_peek_alias(
     ensures small { OnSmall result (BothHold look.old.look.sight.shelf look.new.look.sight.shelf (λ old new. TellsSizeAlone (ask_or_alias old (asked name.now question.now)) told.new buffer.old buffer.new old new)) }
     ensures buffer { OnRefused result (buffer.new ≡ buffer.old) }
     ensures told { OnUntold result (told.new ≡ told.old) }
-    ensures fit { OnDone result (IsQuestion name.now question.now look.old.seed) }
-    ensures due { IfSome look.old.look.sight.shelf (λ shelf. PeekAliasDue name.now question.now look.old.seed (length buffer.old) shelf result) }
+    ensures fit { OnDone result (Passes (question_checks name.now question.now look.old.seed)) }
+    ensures due { IfSome look.old.look.sight.shelf (λ shelf. PeekDue name.now question.now look.old.seed (ask_or_alias shelf (asked name.now question.now)) (length buffer.old) shelf result) }
 {
     let seed = look.seed;
     let Some(glance) = look.look.take() else {

@@ -1,10 +1,11 @@
 // SPDX-License-Identifier: MIT
-ghost use Rattle.std.specs.Prelude.{◌≡◌, ◌⊎◌, true, IfSome};
+ghost use Rattle.std.specs.Prelude.{◌≡◌, ◌⊎◌, IfSome};
 ghost use Rattle.rrc_shelf.specs.Statuses.{number_of_call, OnDone, OnRefused};
 ghost use Rattle.rrc_c.specs.Handles.{OnNoShelf, BothHold, HoldsNone, IsKept, TellsNone};
-ghost use Rattle.rrc_shelf.specs.Intake.{denial_offer, failure_offer, TakesMessage, TakesOne, TakesSet, TakesSome};
-ghost use Rattle.rrc_shelf.specs.PartIntake.{IsPart, TakesPart, TakesSomeOfPart};
-ghost use Rattle.rrc_shelf.specs.Refusals.{DenialDue, FailureDue, IsDenial, IsFailure, IsSet, SetDue, is_seed};
+ghost use Rattle.rrc_shelf.specs.Intake.{denial_offer, failure_offer, whole, TakesMessage, TakesOne, TakesSet, TakesSome};
+ghost use Rattle.rrc_shelf.specs.Checks.{Due, Passes};
+ghost use Rattle.rrc_shelf.specs.PartIntake.{own_share, part_checks};
+ghost use Rattle.rrc_shelf.specs.Refusals.{denial_checks, failure_checks, message_checks, set_checks, WriteDue};
 
 use crate::handle_status::NO_SHELF;
 use crate::shelf_handle::ShelfHandle;
@@ -25,8 +26,8 @@ pub extern "C" fn rrc_offer_message_unchecked(
     counts: &mut Counts,
 ) -> u32
     ensures none { TellsNone handle.old.held.seal.shelf result }
-    ensures done { OnDone result (BothHold handle.old.held.seal.shelf handle.new.held.seal.shelf (TakesMessage octets.now zone.now terms.now counts.new)) }
-    ensures refused { OnRefused result (HoldsNone handle.old.held.seal.shelf handle.new.held.seal.shelf ⊎ BothHold handle.old.held.seal.shelf handle.new.held.seal.shelf (TakesSome result octets.now zone.now terms.now counts.new)) }
+    ensures done { OnDone result (BothHold handle.old.held.seal.shelf handle.new.held.seal.shelf (TakesMessage whole octets.now zone.now terms.now counts.new)) }
+    ensures refused { OnRefused result (HoldsNone handle.old.held.seal.shelf handle.new.held.seal.shelf ⊎ BothHold handle.old.held.seal.shelf handle.new.held.seal.shelf (TakesSome (message_checks octets.now zone.now terms.now.limits) whole result octets.now zone.now terms.now counts.new)) }
     ensures counts { OnNoShelf result (counts.new ≡ counts.old) }
     ensures seed { handle.new.seed ≡ handle.old.seed }
 {
@@ -49,11 +50,9 @@ pub extern "C" fn rrc_offer_part_unchecked(
     counts: &mut Counts,
 ) -> u32
     ensures none { TellsNone handle.old.held.seal.shelf result }
-    ensures done { OnDone result (BothHold handle.old.held.seal.shelf handle.new.held.seal.shelf (TakesPart octets.now zone.now terms.now counts.new)) }
-    ensures part { OnDone result (IsPart terms.now.parts.count terms.now.part) }
-    ensures divided { OnDone result (is_seed terms.now.parts.seed ≡ true) }
-    ensures seeded { OnDone result (terms.now.parts.seed ≡ handle.old.seed) }
-    ensures refused { OnRefused result (HoldsNone handle.old.held.seal.shelf handle.new.held.seal.shelf ⊎ BothHold handle.old.held.seal.shelf handle.new.held.seal.shelf (TakesSomeOfPart result octets.now zone.now terms.now handle.old.seed counts.new)) }
+    ensures done { OnDone result (BothHold handle.old.held.seal.shelf handle.new.held.seal.shelf (TakesMessage (own_share terms.now) octets.now zone.now terms.now counts.new)) }
+    ensures fit { OnDone result (Passes (part_checks octets.now zone.now terms.now handle.old.seed)) }
+    ensures refused { OnRefused result (HoldsNone handle.old.held.seal.shelf handle.new.held.seal.shelf ⊎ BothHold handle.old.held.seal.shelf handle.new.held.seal.shelf (TakesSome (part_checks octets.now zone.now terms.now handle.old.seed) (own_share terms.now) result octets.now zone.now terms.now counts.new)) }
     ensures counts { OnNoShelf result (counts.new ≡ counts.old) }
     ensures seed { handle.new.seed ≡ handle.old.seed }
 {
@@ -80,8 +79,8 @@ pub extern "C" fn rrc_offer_set(
     ensures refused { OnRefused result (IsKept handle.old.held.seal.shelf handle.new.held.seal.shelf) }
     ensures outcome { OnRefused result (outcome.new ≡ outcome.old) }
     ensures seed { handle.new.seed ≡ handle.old.seed }
-    ensures fit { OnDone result (IsSet owner.now set.now octets.now) }
-    ensures due { IfSome handle.old.held.seal.shelf (λ shelf. SetDue owner.now set.now octets.now shelf result) }
+    ensures fit { OnDone result (Passes (set_checks owner.now set.now octets.now)) }
+    ensures due { IfSome handle.old.held.seal.shelf (λ shelf. Due (set_checks owner.now set.now octets.now) (WriteDue shelf set.now.moment) result) }
 {
     let Some(shelf) = handle.held.get_mut() else {
         return NO_SHELF;
@@ -106,8 +105,8 @@ pub extern "C" fn rrc_offer_negative(
     ensures refused { OnRefused result (IsKept handle.old.held.seal.shelf handle.new.held.seal.shelf) }
     ensures outcome { OnRefused result (outcome.new ≡ outcome.old) }
     ensures seed { handle.new.seed ≡ handle.old.seed }
-    ensures fit { OnDone result (IsDenial name.now negative.now soa_owner.now soa.now) }
-    ensures due { IfSome handle.old.held.seal.shelf (λ shelf. DenialDue name.now negative.now soa_owner.now soa.now shelf result) }
+    ensures fit { OnDone result (Passes (denial_checks name.now negative.now soa_owner.now soa.now)) }
+    ensures due { IfSome handle.old.held.seal.shelf (λ shelf. Due (denial_checks name.now negative.now soa_owner.now soa.now) (WriteDue shelf negative.now.moment) result) }
 {
     let Some(shelf) = handle.held.get_mut() else {
         return NO_SHELF;
@@ -130,8 +129,8 @@ pub extern "C" fn rrc_offer_failure(
     ensures refused { OnRefused result (IsKept handle.old.held.seal.shelf handle.new.held.seal.shelf) }
     ensures outcome { OnRefused result (outcome.new ≡ outcome.old) }
     ensures seed { handle.new.seed ≡ handle.old.seed }
-    ensures fit { OnDone result (IsFailure name.now failure.now) }
-    ensures due { IfSome handle.old.held.seal.shelf (λ shelf. FailureDue name.now failure.now shelf result) }
+    ensures fit { OnDone result (Passes (failure_checks name.now failure.now)) }
+    ensures due { IfSome handle.old.held.seal.shelf (λ shelf. Due (failure_checks name.now failure.now) (WriteDue shelf failure.now.moment) result) }
 {
     let Some(shelf) = handle.held.get_mut() else {
         return NO_SHELF;

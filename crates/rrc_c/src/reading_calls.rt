@@ -1,8 +1,9 @@
 // SPDX-License-Identifier: MIT
-ghost use Rattle.std.specs.Prelude.{◌≡◌, ◌<◌, ◌⊎◌, drop, length, None, true, false, IfSome, IsSomeAnd};
-ghost use Rattle.rrc_shelf.specs.Offered.{offer_in, IsOfferAnd, OfferDue, OneDue, TakesOffer, TellsOfferOr};
+ghost use Rattle.std.specs.Prelude.{◌≡◌, ◌⊎◌, drop, length, None, true, false, IfSome, IsSomeAnd};
+ghost use Rattle.rrc_shelf.specs.Offered.{offer_in, OfferDue, OneDue, TakesOffer, TellsOfferOr};
 ghost use Rattle.rrc_c.specs.Handles.{IsKept, TellsNone, OnNoShelf, BothHold};
-ghost use Rattle.rrc_shelf.specs.Readings.{parts_below, IsReading, TakesShare, TakesSomeOfShare};
+ghost use Rattle.rrc_shelf.specs.Checks.{Passes};
+ghost use Rattle.rrc_shelf.specs.Readings.{parts_below, share_checks, IsReading, TakesShare, TakesSomeOfShare};
 ghost use Rattle.rrc_shelf.specs.Responses.{IsResponseReading};
 ghost use Rattle.rrc_shelf.specs.Summaries.{SummaryDue, TellsSummary};
 ghost use Rattle.rrc_shelf.specs.Statuses.{OnDone, OnRefused, OnSmall, OnUntold};
@@ -114,8 +115,8 @@ pub extern "C" fn rrc_tell_offer(
     buffer: &mut [u8],
 ) -> u32
     ensures none { TellsNoSuchOffer offers.old.seal.reading index result }
-    ensures done { OnDone result (IsSomeAnd offers.old.seal.reading (λ reading. IsOfferAnd (offer_in reading index) (λ offer. TellsOfferOr true reading offer name.new told.new buffer.old buffer.new))) }
-    ensures small { OnSmall result (IsSomeAnd offers.old.seal.reading (λ reading. IsOfferAnd (offer_in reading index) (λ offer. TellsOfferOr false reading offer name.new told.new buffer.old buffer.new))) }
+    ensures done { OnDone result (IsSomeAnd offers.old.seal.reading (λ reading. IsSomeAnd (offer_in reading index) (λ offer. TellsOfferOr true reading offer name.new told.new buffer.old buffer.new))) }
+    ensures small { OnSmall result (IsSomeAnd offers.old.seal.reading (λ reading. IsSomeAnd (offer_in reading index) (λ offer. TellsOfferOr false reading offer name.new told.new buffer.old buffer.new))) }
     ensures name { OnUntold result (name.new ≡ name.old) }
     ensures behind { drop name.new.size name.new.octets ≡ drop name.new.size name.old.octets }
     ensures told { OnUntold result (told.new ≡ told.old) }
@@ -141,8 +142,7 @@ pub extern "C" fn rrc_offer_read(
     ensures none { TellsNone handle.old.held.seal.shelf result }
     ensures no_offers { IfSome handle.old.held.seal.shelf (λ shelf. TellsNoOffers offers.old.seal.reading result) }
     ensures done { OnDone result (IsSomeAnd offers.old.seal.reading (λ reading. BothHold handle.old.held.seal.shelf handle.new.held.seal.shelf (TakesShare share.now counts.new reading))) }
-    ensures part { OnDone result (IsSomeAnd offers.old.seal.reading (λ reading. share.now.part < reading.parts)) }
-    ensures seeded { OnDone result (IsSomeAnd offers.old.seal.reading (λ reading. reading.seed ≡ handle.old.seed)) }
+    ensures fit { OnDone result (IsSomeAnd offers.old.seal.reading (λ reading. Passes (share_checks share.now.part reading handle.old.seed))) }
     ensures refused { OnRefused result (OneLacks offers.old.seal.reading handle.old.held.seal.shelf handle.new.held.seal.shelf ⊎ IsSomeAnd offers.old.seal.reading (λ reading. BothHold handle.old.held.seal.shelf handle.new.held.seal.shelf (TakesSomeOfShare result share.now handle.old.seed counts.new reading))) }
     ensures counts { OnNoShelf result (counts.new ≡ counts.old) }
     ensures uncounted { OnNoOffers result (counts.new ≡ counts.old) }
@@ -170,7 +170,7 @@ pub extern "C" fn rrc_offer_one(
 ) -> u32
     ensures none { TellsNone handle.old.held.seal.shelf result }
     ensures no_offer { IfSome handle.old.held.seal.shelf (λ shelf. TellsNoSuchOffer offers.old.seal.reading pick.now.index result) }
-    ensures done { OnDone result (IsSomeAnd offers.old.seal.reading (λ reading. BothHold handle.old.held.seal.shelf handle.new.held.seal.shelf (λ old new. IsOfferAnd (offer_in reading pick.now.index) (λ offer. TakesOffer pick.now.line reading offer handle.old.seed outcome.new old new)))) }
+    ensures done { OnDone result (IsSomeAnd offers.old.seal.reading (λ reading. BothHold handle.old.held.seal.shelf handle.new.held.seal.shelf (λ old new. IsSomeAnd (offer_in reading pick.now.index) (λ offer. TakesOffer pick.now.line reading offer handle.old.seed outcome.new old new)))) }
     ensures refused { OnRefused result (IsKept handle.old.held.seal.shelf handle.new.held.seal.shelf) }
     ensures outcome { OnRefused result (outcome.new ≡ outcome.old) }
     ensures kept { offers.new.seal.reading ≡ offers.old.seal.reading }

@@ -2,6 +2,7 @@
 pub mod Filling
 pub mod Answering
 pub mod Taking
+pub mod Data
 pub mod Refusing
 pub mod Querying
 pub mod SetFits

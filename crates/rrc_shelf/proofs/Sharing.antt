@@ -7,9 +7,10 @@ use Rattle.std.proofs.lemmas.List.Elements.{All-filter, All-map}
 use Rattle.std.specs.List.{All}
 use Rattle.rrc_history.specs.Fits.{OfferOf}
 use Rattle.rrc_shelf.specs.Intake.{AreAt, AreOffered, TakesAll, TakesFirst}
-use Rattle.rrc_shelf.specs.PartIntake.{lying_in, IsPart}
+use Rattle.rrc_shelf.specs.Checks.{Passes}
+use Rattle.rrc_shelf.specs.PartIntake.{lying_in, part_checks, IsPart}
 use Rattle.rrc_shelf.specs.Parts.{keyed_part_of}
-use Rattle.rrc_shelf.specs.Readings.{bit_of, has_part, parts_below, placed_in, share_of, terms_of_share, HoldsOffers, IsReading, RefusedShareIsPart, ShareIsPart}
+use Rattle.rrc_shelf.specs.Readings.{bit_of, has_part, parts_below, placed_in, share_checks, share_of, terms_of_share, HoldsOffers, IsReading, RefusedShareIsPart, ShareIsPart}
 use Rattle.rrc_shelf.specs.declared.reading.Placed.{Placed}
 use Rattle.rrc_shelf.specs.declared.reading.Reading.{Reading}
 use Rattle.rrc_shelf.specs.declared.terms.Division.{Division}
@@ -63,42 +64,54 @@ share_is_part octets zone terms share reading counts old new is takes =
 
 is_part : (terms : ResponseTerms) (part : ℕ) (offers : List OfferOf) (reading : Reading) → HoldsOffers terms offers reading → part < reading.parts → IsPart terms.parts.count part
 is_part terms part offers reading is below =
-    record { some = is.division.are_parts.some; few = is.division.are_parts.few; below = subst (λ n. part < n) is.parts_are below }
+    record { some = is.division.0.0; few = is.division.0.1; below = subst (λ n. part < n) is.parts_are below }
 
-is_no_part : (parts part all : ℕ) → all ≡ parts → all ≤ part → IsPart parts part → ⊥
-is_no_part parts part all same above fit = let below = fit.below in omega (arith, same, above, below)
+is_no_part : (parts part all : ℕ) → all ≡ parts → (part < all → ⊥) → IsPart parts part → ⊥
+is_no_part parts part all same above fit = above (subst (λ n. part < n) (sym same) fit.below)
 
 -- the seed of the reading is that of its terms
 other_seed : (one same seed : List ℕ) → one ≡ same → (one ≡ seed → ⊥) → same ≡ seed → ⊥
 other_seed one same seed is other at = other (is ∙ at)
 
+-- what a share passes a part passes
+share_passes : (octets zone seed : List ℕ) (terms : ResponseTerms) (share : Share) (reading : Reading) → IsReading octets zone terms reading
+    → Passes (share_checks share.part reading seed) → Passes (part_checks octets zone (terms_of_share terms share) seed)
+share_passes octets zone seed terms share reading is (below, (seeded, rest)) =
+    let message = is.offered.brought in (
+      is_part terms share.part is.offers reading is.holds below,
+      (is.holds.division.1.0, (is.holds.are_limits, (tt, (is.offered.zone_is, ((message.message, message.begins), (sym is.holds.seed_is ∙ seeded, tt)))))),
+    )
+
 pub refused_share_is_part : RefusedShareIsPart
 refused_share_is_part octets zone number terms share seed reading counts old new is (inl (none, inl (told, above))) =
     inl (none, inl (told, is_no_part terms.parts.count share.part reading.parts is.holds.parts_are above))
 refused_share_is_part octets zone number terms share seed reading counts old new is (inl (none, inr (below, inl (told, other)))) =
+    let message = is.offered.brought in
+    let seeded = other_seed reading.seed terms.parts.seed seed is.holds.seed_is other in
     inl (
       none,
       inr (
         is_part terms share.part is.offers reading is.holds below,
         inr (
-          is.holds.division.has_seed,
-          inr ((is.offers, offered_again octets zone terms share is.offers is.offered), (told, other_seed reading.seed terms.parts.seed seed is.holds.seed_is other)),
+          is.holds.division.1.0,
+          inr (is.holds.are_limits, inr (tt, inr (is.offered.zone_is, inr ((message.message, message.begins), inl (told, seeded))))),
         ),
       ),
     )
-refused_share_is_part octets zone number terms share seed reading counts old new is (inl (none, inr (below, inr (same, memory)))) =
-    inl (none, inr (is_part terms share.part is.offers reading is.holds below, inr (is.holds.division.has_seed, inl (inr (is.holds.are_limits, inl (inl memory))))))
-refused_share_is_part octets zone number terms share seed reading counts old new is (inr beginning) =
+refused_share_is_part octets zone number terms share seed reading counts old new is (inl (none, inr (below, inr (same, inl memory)))) =
+    inl (none, inr (is_part terms share.part is.offers reading is.holds below, inr (is.holds.division.1.0, inr (is.holds.are_limits, inl memory))))
+refused_share_is_part octets zone number terms share seed reading counts old new is (inl (none, inr (below, inr (same, inr (some, bad))))) = absurd bad
+refused_share_is_part octets zone number terms share seed reading counts old new is (inr (passes, begins)) =
     let same = share_same octets zone terms share.part reading is in
-    let first = subst (λ moment. TakesFirst number share.line moment (share_of share.part reading.placed.items) counts old new) is.holds.moment_is beginning.takes in
-    inr (record {
-      is_part = is_part terms share.part is.offers reading is.holds beginning.below;
-      has_seed = is.holds.division.has_seed;
-      seeded = sym is.holds.seed_is ∙ beginning.seeded;
-      offers = is.offers;
-      offered = offered_again octets zone terms share is.offers is.offered;
-      takes = subst (λ offers. TakesFirst number share.line terms.moment offers counts old new) same first;
-    })
+    let first = subst (λ moment. TakesFirst number share.line moment (share_of share.part reading.placed.items) counts old new) is.holds.moment_is begins in
+    inr (
+      share_passes octets zone seed terms share reading is passes,
+      record {
+        offers = is.offers;
+        offered = offered_again octets zone terms share is.offers is.offered;
+        takes = subst (λ offers. TakesFirst number share.line terms.moment offers counts old new) same first;
+      },
+    )
 
 -- ---- bits
 

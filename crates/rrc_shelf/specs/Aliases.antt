@@ -6,7 +6,7 @@ use Rattle.rrc_history.specs.Judged.{governing}
 use Rattle.rrc_history.specs.declared.ask.Mode.{Mode}
 use Rattle.rrc_history.specs.declared.ask.Mode.TheVariants.{NoStale, Failed, Now}
 use Rattle.rrc_history.specs.declared.event.Reply.{Reply}
-use Rattle.rrc_history.specs.declared.event.Reply.TheVariants.{Fresh, Stale, NoData, NxDomain, Miss}
+use Rattle.rrc_history.specs.declared.event.Reply.TheVariants.{Fresh, Stale, Miss}
 use Rattle.rrc_history.specs.declared.snapshot.Entry.{Entry}
 use Rattle.rrc_share.specs.CacheShelf.{CacheShelfOf}
 use Rattle.rrc_shelf.specs.Asks.{entry_for, reply_of}
@@ -22,12 +22,9 @@ is_beside_alias rtype = rtype == CNAME || (rtype == 255 || (rtype == 46 || rtype
 
 -- asking for the type has failed: a miss says so, or stale data that are told for that alone
 abbrev pub has_failed : Reply → Bool
-has_failed (Fresh set left) = false
 has_failed (Stale set left) = true
-has_failed (NoData soa left) = false
-has_failed (NxDomain soa left) = false
-has_failed (Miss None) = false
 has_failed (Miss (Some retry_from)) = true
+has_failed reply = false
 
 -- whether a stale record will do: where that depends on a failure, on one of the type that was asked for
 abbrev pub alias_mode : Mode → Reply → Mode
@@ -42,9 +39,7 @@ alias_ask ask reply = record { name = ask.name; class = ask.class; rtype = CNAME
 abbrev pub has_data : Reply → Bool
 has_data (Fresh set left) = true
 has_data (Stale set left) = true
-has_data (NoData soa left) = false
-has_data (NxDomain soa left) = false
-has_data (Miss retry_from) = false
+has_data reply = false
 
 -- the entries are one: each event stores one at most, so its number tells them apart
 abbrev pub is_same_entry : Option Entry → Option Entry → Bool

@@ -38,11 +38,8 @@ asked name question =
     record { name = octets_of name; class = question.rclass; rtype = question.rtype; moment = question.moment; purpose = purpose_of question.purpose; mode = mode_of question.mode }
 
 -- the numbers are of a purpose and of a mode
-pub record AreChoices (purpose mode : ℕ) : Type 0 where
-  pub some_purpose : 1 ≤ purpose
-  pub purpose_known : purpose ≤ 2
-  pub some_mode : 1 ≤ mode
-  pub mode_known : mode ≤ 3
+abbrev pub AreChoices : ℕ → ℕ → Type 0
+AreChoices purpose mode = ((1 ≤ purpose) × (purpose ≤ 2)) × ((1 ≤ mode) × (mode ≤ 3))
 
 -- the reply that a shelf has for a question
 abbrev pub reply_of : CacheShelfOf → AskOf → Reply
@@ -102,8 +99,3 @@ pub record TellsSizeAlone (ask : AskOf) (told : ReplyRecord) (before after : Lis
 abbrev pub AnswersOr : Bool → AskOf → ℕ → ReplyRecord → List ℕ → List ℕ → CacheShelfOf → CacheShelfOf → Type 0
 AnswersOr true ask line told before after old new = Answers ask line told before after old new
 AnswersOr false ask line told before after old new = TellsSizeAlone ask told before after old new
-
--- nothing was told
-pub record TellsNothing (told : ReplyRecord) (before : List ℕ) (told_after : ReplyRecord) (after : List ℕ) : Type 0 where
-  pub record_kept : told_after ≡ told
-  pub buffer_kept : after ≡ before

@@ -6,7 +6,8 @@ use Rattle.rrc_share.specs.CacheShelf.{CacheShelfOf, lean_shelf}
 use Rattle.rrc_share.specs.Shelf.{AreBefore}
 use Rattle.rrc_share.specs.Switches.{Stops}
 use Rattle.rrc_archive.specs.Archive.{lines_of, written_of}
-use Rattle.rrc_shelf.specs.Refusals.{IsDoneOrMemory, OutOfMemory, RecordDueBy}
+use Rattle.rrc_shelf.specs.Checks.{IsDoneOrMemory, OutOfMemory}
+use Rattle.rrc_shelf.specs.Refusals.{RecordDueBy}
 use Rattle.rrc_shelf.specs.ReplyRecord.{IsFilled}
 use Rattle.rrc_shelf.specs.declared.chapter_lines.Line.{Line}
 use Rattle.rrc_shelf.specs.declared.terms.LinePlace.{LinePlace}

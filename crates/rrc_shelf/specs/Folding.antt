@@ -1,10 +1,11 @@
 -- SPDX-License-Identifier: MIT
 -- A name as C is handed it.
-use Rattle.std.specs.Prelude.{◌≡◌, ℕ, ◌≤◌, List}
-use Rattle.rrc_name.specs.Wire.{folded, IsWireForm}
+use Rattle.std.specs.Prelude.{◌≡◌, ℕ, ◌≤◌, List, [], ◌∷◌, ◌++◌}
+use Rattle.rrc_name.specs.Wire.{folded}
 use Rattle.rrc_shelf.specs.Asks.{octets_of}
 use Rattle.rrc_shelf.specs.Parts.{keyed_part_of}
-use Rattle.rrc_shelf.specs.Refusals.{DivisionRefused, IsDivision, Then, WireRefused}
+use Rattle.rrc_shelf.specs.Checks.{Due, IsDone}
+use Rattle.rrc_shelf.specs.Refusals.{division_checks, wire_check}
 use Rattle.rrc_shelf.specs.declared.folded_name.FoldedName.{FoldedName}
 use Rattle.rrc_shelf.specs.declared.terms.Division.{Division}
 
@@ -17,5 +18,4 @@ pub record IsFoldedName (octets : List ℕ) (division : Division) (name : Folded
 
 -- when a name is made, and when that is refused with what: never for want of memory
 abbrev pub FoldingDue : List ℕ → Division → ℕ → Type 0
-FoldingDue octets division =
-    Then (DivisionRefused division) (IsDivision division) (Then (WireRefused octets) (IsWireForm octets) (λ number. number ≡ 0))
+FoldingDue octets division = Due (division_checks division ++ (wire_check octets ∷ [])) IsDone

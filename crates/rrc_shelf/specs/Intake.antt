@@ -17,7 +17,8 @@ use Rattle.rrc_sets.specs.Message.{Brings}
 use Rattle.rrc_sets.specs.declared.limits.Limits.{Limits}
 use Rattle.rrc_shelf.specs.Shelves.{IsLeftAs, MakesOffer}
 use Rattle.rrc_shelf.specs.ReplyRecord.{data_text}
-use Rattle.rrc_shelf.specs.Refusals.{OffersRefused, WriteDue}
+use Rattle.rrc_shelf.specs.Checks.{Check, Passes, Refuses}
+use Rattle.rrc_shelf.specs.Refusals.{WriteDue}
 use Rattle.rrc_shelf.specs.declared.counts.Counts.{Counts}
 use Rattle.rrc_shelf.specs.declared.terms.FailureTerms.{FailureTerms}
 use Rattle.rrc_shelf.specs.declared.terms.NegativeTerms.{NegativeTerms}
@@ -124,27 +125,31 @@ pub record AreOffered (octets zone : List ℕ) (terms : ResponseTerms) (offers :
   pub are_limits : LimitsAre limits terms.limits.cap terms.limits.negative_cap terms.limits.recheck
   pub brought : Brings limits octets zone terms.moment offers
 
--- all that a message offers was written
-pub record TakesMessage (octets zone : List ℕ) (terms : ResponseTerms) (counts : Counts) (old new : CacheShelfOf) : Type 0 where
-  pub offers : List OfferOf
-  pub offered : AreOffered octets zone terms offers
-  pub takes : TakesAll terms.line offers counts old new
+-- all offers
+abbrev pub whole : List OfferOf → List OfferOf
+whole offers = offers
 
--- the first of what a message offers was written, and then it was refused by this number
-pub record TakesBeginning (number : ℕ) (octets zone : List ℕ) (terms : ResponseTerms) (counts : Counts) (old new : CacheShelfOf) : Type 0 where
+-- what a message offers was written, or a share of it
+pub record TakesMessage (share : List OfferOf → List OfferOf) (octets zone : List ℕ) (terms : ResponseTerms) (counts : Counts) (old new : CacheShelfOf) : Type 0 where
   pub offers : List OfferOf
   pub offered : AreOffered octets zone terms offers
-  pub takes : TakesFirst number terms.line terms.moment offers counts old new
+  pub takes : TakesAll terms.line (share offers) counts old new
+
+-- the first of it was written, and then it was refused by this number
+pub record TakesBeginning (share : List OfferOf → List OfferOf) (number : ℕ) (octets zone : List ℕ) (terms : ResponseTerms) (counts : Counts) (old new : CacheShelfOf) : Type 0 where
+  pub offers : List OfferOf
+  pub offered : AreOffered octets zone terms offers
+  pub takes : TakesFirst number terms.line terms.moment (share offers) counts old new
 
 -- nothing was written and nothing counted
 pub record TakesNone (counts : Counts) (old new : CacheShelfOf) : Type 0 where
   pub counted : counts ≡ counts_of []
   pub kept : new ≡ old
 
--- what a refusal by this number leaves: nothing was written, as what was handed in is refused, or the first of what the message offers
-abbrev pub TakesSome : ℕ → List ℕ → List ℕ → ResponseTerms → Counts → CacheShelfOf → CacheShelfOf → Type 0
-TakesSome number octets zone terms counts old new =
-    (TakesNone counts old new × OffersRefused octets zone terms.limits number) ⊎ TakesBeginning number octets zone terms counts old new
+-- what a refusal by this number leaves: a check failed and nothing was written, or all passed and the first of it was
+abbrev pub TakesSome : List Check → (List OfferOf → List OfferOf) → ℕ → List ℕ → List ℕ → ResponseTerms → Counts → CacheShelfOf → CacheShelfOf → Type 0
+TakesSome checks share number octets zone terms counts old new =
+    (TakesNone counts old new × Refuses checks number) ⊎ (Passes checks × TakesBeginning share number octets zone terms counts old new)
 
 -- how many offers were counted
 abbrev pub total : Counts → ℕ

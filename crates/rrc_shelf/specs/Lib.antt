@@ -4,6 +4,7 @@ pub mod Shelves
 pub mod NewShelf
 pub mod ReplyRecord
 pub mod Asks
+pub mod Checks
 pub mod Refusals
 pub mod Parts
 pub mod Intake

@@ -1,6 +1,6 @@
 -- SPDX-License-Identifier: MIT
 -- What C is told of an offer that was read: the reply that it makes once it is kept.
-use Rattle.std.specs.Prelude.{◌≡◌, ℕ, ◌+◌, ◌-◌, ◌^◌, ◌⊎◌, min, List, Bool, true, false, Option, None, Some, slice_get}
+use Rattle.std.specs.Prelude.{◌≡◌, ℕ, ◌+◌, ◌-◌, ◌^◌, min, List, [], ◌∷◌, ◌++◌, Bool, true, false, Option, Some, slice_get}
 use Rattle.std.specs.Option.{option_map}
 use Rattle.rrc_name.specs.declared.slot.Slot.{Slot}
 use Rattle.rrc_name.specs.declared.slot.Slot.TheVariants.{Set, Nx, Failed}
@@ -10,11 +10,11 @@ use Rattle.rrc_history.specs.declared.body.Body.{Body}
 use Rattle.rrc_history.specs.declared.body.Body.TheVariants.{Positive, Negative, Failure}
 use Rattle.rrc_history.specs.declared.event.Reply.{Reply}
 use Rattle.rrc_history.specs.declared.event.Reply.TheVariants.{Fresh, NoData, NxDomain, Miss}
-use Rattle.rrc_name.specs.Wire.{IsWireForm}
 use Rattle.rrc_shelf.specs.Folding.{IsFoldedName}
 use Rattle.rrc_shelf.specs.Intake.{TakesOne}
-use Rattle.rrc_shelf.specs.Refusals.{Because, DivisionRefused, HasRoomFor, IsDivision, IsSmall, OutOfMemory, ReplyRefused, Then, WireRefused, WriteDue}
-use Rattle.rrc_shelf.specs.ReplyRecord.{data_of, record_of, text_of, told_of, AreTellable, IsFilled}
+use Rattle.rrc_shelf.specs.Checks.{memory, unless, Due, IsDone}
+use Rattle.rrc_shelf.specs.Refusals.{division_checks, reply_check, room_check, wire_check, WriteDue}
+use Rattle.rrc_shelf.specs.ReplyRecord.{record_of, text_of, told_of, IsFilled}
 use Rattle.rrc_shelf.specs.declared.folded_name.FoldedName.{FoldedName}
 use Rattle.rrc_shelf.specs.declared.reading.Placed.{Placed}
 use Rattle.rrc_shelf.specs.declared.reading.Reading.{Reading}
@@ -30,8 +30,7 @@ later at seconds = min (at + seconds) (2 ^ 64 - 1)
 -- that there are no data of a type, or no such name
 abbrev pub denial_of : Slot → List ℕ → List ℕ → ℕ → Reply
 denial_of Nx owner soa ttl = NxDomain (record { owner = owner; octets = soa }) ttl
-denial_of (Set rtype) owner soa ttl = NoData (record { owner = owner; octets = soa }) ttl
-denial_of (Failed rtype) owner soa ttl = NoData (record { owner = owner; octets = soa }) ttl
+denial_of slot owner soa ttl = NoData (record { owner = owner; octets = soa }) ttl
 
 -- a body under a slot as the reply that it makes at its moment, for its whole TTL
 abbrev pub reply_by : Slot → ℕ → Body → Reply
@@ -69,26 +68,17 @@ TellsOfferOr false reading offer name told before after = TellsNameAndRecord rea
 -- when an offer of a reading is told to a buffer of so many octets, and when that is refused with what
 abbrev pub OfferDue : Reading → OfferOf → ℕ → ℕ → Type 0
 OfferDue reading offer room =
-    Then (ReplyRefused (reply_of_offer offer)) (AreTellable (data_of (reply_of_offer offer)))
-    (Then (DivisionRefused (division_of reading)) (IsDivision (division_of reading))
-    (Then (WireRefused offer.key.name) (IsWireForm offer.key.name)
-    (Then (IsSmall (reply_of_offer offer) room) (HasRoomFor (reply_of_offer offer) room) (λ number. number ≡ 0))))
+    Due (reply_check (reply_of_offer offer) ∷ division_checks (division_of reading) ++ (wire_check offer.key.name ∷ room_check (reply_of_offer offer) room ∷ [])) IsDone
 
 -- the offer of a reading with a number, counted from 0, if there is one
 abbrev pub offer_in : Reading → ℕ → Option OfferOf
 offer_in reading index = option_map (λ (one : Placed). one.offer) (slice_get reading.placed.items index)
 
--- there is an offer, of which this is true
-abbrev pub IsOfferAnd : Option OfferOf → (OfferOf → Type 0) → Type 0
-IsOfferAnd None fact = ⊥
-IsOfferAnd (Some offer) fact = fact offer
-
 -- ---- offering one
 
 -- when an offer of a reading is offered alone to a shelf of this seed, and when that is refused with what
 abbrev pub OneDue : Reading → OfferOf → List ℕ → CacheShelfOf → ℕ → Type 0
-OneDue reading offer seed shelf =
-    Then (Because OtherSeed (reading.seed ≡ seed → ⊥)) (reading.seed ≡ seed) (λ number. OutOfMemory number ⊎ WriteDue shelf offer.moment number)
+OneDue reading offer seed shelf = Due (unless OtherSeed (reading.seed ≡ seed) ∷ memory ∷ []) (WriteDue shelf offer.moment)
 
 -- it was read by the seed of the shelf, and one event was written, of just that offer
 pub record TakesOffer (line : ℕ) (reading : Reading) (offer : OfferOf) (seed : List ℕ) (outcome : ℕ) (old new : CacheShelfOf) : Type 0 where

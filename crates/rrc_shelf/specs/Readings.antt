@@ -1,14 +1,15 @@
 -- SPDX-License-Identifier: MIT
 -- What one reading of a message holds: its offers, each beside the part that its name lies in.
-use Rattle.std.specs.Prelude.{◌≡◌, ℕ, zero, suc, ◌+◌, ◌^◌, ◌<◌, ◌≤◌, ◌⊎◌, ◌==◌, List, Bool, map, filter, if◌then◌else◌}
+use Rattle.std.specs.Prelude.{◌≡◌, ℕ, zero, suc, ◌+◌, ◌^◌, ◌<◌, ◌⊎◌, ◌==◌, List, [], ◌∷◌, ◌++◌, Bool, map, filter, if◌then◌else◌}
 use Rattle.std.specs.List.{list_any}
 use Rattle.rrc_history.specs.Fits.{OfferOf}
 use Rattle.rrc_sets.specs.declared.relevance.RelevanceLimits.{RelevanceLimits}
 use Rattle.rrc_share.specs.CacheShelf.{CacheShelfOf}
-use Rattle.rrc_shelf.specs.Intake.{AreAt, AreOffered, TakesAll, TakesFirst, TakesNone}
-use Rattle.rrc_shelf.specs.PartIntake.{TakesPart, TakesSomeOfPart}
+use Rattle.rrc_shelf.specs.Intake.{AreAt, AreOffered, TakesAll, TakesFirst, TakesMessage, TakesNone, TakesSome}
+use Rattle.rrc_shelf.specs.PartIntake.{own_share, part_checks}
 use Rattle.rrc_shelf.specs.Parts.{keyed_part_of}
-use Rattle.rrc_shelf.specs.Refusals.{AreLimits, Because, DivisionRefused, IsDivision, OffersRefused, OutOfMemory, Then}
+use Rattle.rrc_shelf.specs.Checks.{memory, unless, Check, Passes, Refuses}
+use Rattle.rrc_shelf.specs.Refusals.{division_checks, message_checks, AreLimits}
 use Rattle.rrc_shelf.specs.Summaries.{AreChosen, summary_of}
 use Rattle.rrc_shelf.specs.declared.counts.Counts.{Counts}
 use Rattle.rrc_shelf.specs.declared.reading.Placed.{Placed}
@@ -26,7 +27,7 @@ placed_in division offer = record { part = keyed_part_of division.seed offer.key
 
 -- a reading of offers: all of them, in order, at the moment of its reading, each beside its part
 pub record HoldsOffers (terms : ResponseTerms) (offers : List OfferOf) (reading : Reading) : Type 0 where
-  pub division : IsDivision terms.parts
+  pub division : Passes (division_checks terms.parts)
   pub parts_are : reading.parts ≡ terms.parts.count
   pub moment_is : reading.moment ≡ terms.moment
   pub seed_is : reading.seed ≡ terms.parts.seed
@@ -43,9 +44,9 @@ pub record IsReading (octets zone : List ℕ) (terms : ResponseTerms) (reading :
   pub are_chosen : AreChosen terms relevance
   pub says : reading.summary ≡ summary_of relevance offered.brought.message zone
 
--- a message is not read into offers for so many parts
-abbrev pub ReadingRefused : List ℕ → List ℕ → ResponseTerms → ℕ → Type 0
-ReadingRefused octets zone terms = Then (DivisionRefused terms.parts) (IsDivision terms.parts) (OffersRefused octets zone terms.limits)
+-- what is checked of a message that is read into offers for so many parts
+abbrev pub reading_checks : List ℕ → List ℕ → ResponseTerms → List Check
+reading_checks octets zone terms = division_checks terms.parts ++ message_checks octets zone terms.limits
 
 -- ---- the parts concerned
 
@@ -72,50 +73,32 @@ share_of part placed = map (λ (one : Placed). one.offer) (filter (λ (one : Pla
 abbrev pub TakesShare : Share → Counts → Reading → CacheShelfOf → CacheShelfOf → Type 0
 TakesShare share counts reading old new = TakesAll share.line (share_of share.part reading.placed.items) counts old new
 
--- nothing is offered to a shelf of this seed, since there is no such part, or it was read by another seed, or for want of memory
-abbrev pub ShareRefused : ℕ → Reading → List ℕ → ℕ → Type 0
-ShareRefused part reading seed =
-    Then (Because BadRules (reading.parts ≤ part)) (part < reading.parts)
-    (Then (Because OtherSeed (reading.seed ≡ seed → ⊥)) (reading.seed ≡ seed) OutOfMemory)
+-- what is checked before they are offered to a shelf of this seed: there is such a part, and it was read by that seed
+abbrev pub share_checks : ℕ → Reading → List ℕ → List Check
+share_checks part reading seed = unless BadRules (part < reading.parts) ∷ unless OtherSeed (reading.seed ≡ seed) ∷ memory ∷ []
 
--- the first of these offers were written, and nothing else, and then it was refused by this number at the moment of the reading
-pub record TakesBeginningOfShare (number : ℕ) (share : Share) (seed : List ℕ) (counts : Counts) (reading : Reading) (old new : CacheShelfOf) : Type 0 where
-  pub below : share.part < reading.parts
-  pub seeded : reading.seed ≡ seed
-  pub takes : TakesFirst number share.line reading.moment (share_of share.part reading.placed.items) counts old new
-
--- what a refusal by this number leaves of a shelf of this seed: nothing was written, or the first of the offers that lie in the part
+-- what a refusal by this number leaves of a shelf of this seed: a check failed and nothing was written, or all passed and the first of these offers
+-- were, before one was refused at the moment of the reading
 abbrev pub TakesSomeOfShare : ℕ → Share → List ℕ → Counts → Reading → CacheShelfOf → CacheShelfOf → Type 0
 TakesSomeOfShare number share seed counts reading old new =
-    (TakesNone counts old new × ShareRefused share.part reading seed number) ⊎ TakesBeginningOfShare number share seed counts reading old new
+    (TakesNone counts old new × Refuses (share_checks share.part reading seed) number)
+    ⊎ (Passes (share_checks share.part reading seed) × TakesFirst number share.line reading.moment (share_of share.part reading.placed.items) counts old new)
 
 -- ---- one reading for many parts
 
 -- the terms of an offer of a part, of a message that was read by these
 abbrev pub terms_of_share : ResponseTerms → Share → ResponseTerms
-terms_of_share terms share = record {
-  moment = terms.moment;
-  line = share.line;
-  parts = terms.parts;
-  part = share.part;
-  limits = terms.limits;
-  id = terms.id;
-  rtype = terms.rtype;
-  rclass = terms.rclass;
-  with_case = terms.with_case;
-  lowest_ttl = terms.lowest_ttl;
-  clears_denied = terms.clears_denied;
-}
+terms_of_share terms share = record terms { line = share.line; part = share.part }
 
 -- what a reading of a message offers by a part is what the message offers under names of that part
 abbrev pub ShareIsPart : Type 0
 ShareIsPart =
     (octets zone : List ℕ) (terms : ResponseTerms) (share : Share) (reading : Reading) (counts : Counts) (old new : CacheShelfOf) → IsReading octets zone terms reading
-    → TakesShare share counts reading old new → TakesPart octets zone (terms_of_share terms share) counts old new
+    → TakesShare share counts reading old new → TakesMessage (own_share (terms_of_share terms share)) octets zone (terms_of_share terms share) counts old new
 
 -- and a refusal leaves what a refusal of the message's part leaves
 abbrev pub RefusedShareIsPart : Type 0
 RefusedShareIsPart =
     (octets zone : List ℕ) (number : ℕ) (terms : ResponseTerms) (share : Share) (seed : List ℕ) (reading : Reading) (counts : Counts) (old new : CacheShelfOf)
     → IsReading octets zone terms reading → TakesSomeOfShare number share seed counts reading old new
-    → TakesSomeOfPart number octets zone (terms_of_share terms share) seed counts old new
+    → TakesSome (part_checks octets zone (terms_of_share terms share) seed) (own_share (terms_of_share terms share)) number octets zone (terms_of_share terms share) counts old new

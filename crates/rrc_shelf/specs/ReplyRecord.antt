@@ -21,51 +21,26 @@ abbrev pub data_text : List (List ℕ) → List ℕ
 data_text [] = []
 data_text (octets ∷ behind) = datum octets ++ data_text behind
 
--- the owner of a reply's data, in wire form; a miss has none
-abbrev pub owner_of : Reply → List ℕ
-owner_of (Fresh set left) = set.owner
-owner_of (Stale set left) = set.owner
-owner_of (NoData soa left) = soa.owner
-owner_of (NxDomain soa left) = soa.owner
-owner_of (Miss retry_from) = []
+-- a reply as it is told: what it is, by its number; for how many seconds it holds; from when on asking that has failed may be tried again;
+-- and the owner, in wire form, and the data, those of a set or the one of a SOA record
+pub record ReplyFields : Type 0 where
+  pub kind : ℕ
+  pub left : ℕ
+  pub retry_from : ℕ
+  pub owner : List ℕ
+  pub items : List (List ℕ)
 
--- the data of a reply: those of a set, or the one of a SOA record
-abbrev pub data_of : Reply → List (List ℕ)
-data_of (Fresh set left) = set.items
-data_of (Stale set left) = set.items
-data_of (NoData soa left) = soa.octets ∷ []
-data_of (NxDomain soa left) = soa.octets ∷ []
-data_of (Miss retry_from) = []
-
--- what a reply is, by its number
-abbrev pub kind_of : Reply → ℕ
-kind_of (Fresh set left) = 1
-kind_of (Stale set left) = 2
-kind_of (NoData soa left) = 3
-kind_of (NxDomain soa left) = 4
-kind_of (Miss None) = 5
-kind_of (Miss (Some moment)) = 6
-
--- for how many seconds a reply holds
-abbrev pub left_of : Reply → ℕ
-left_of (Fresh set left) = left
-left_of (Stale set left) = left
-left_of (NoData soa left) = left
-left_of (NxDomain soa left) = left
-left_of (Miss retry_from) = 0
-
--- from when on asking that has failed may be tried again
-abbrev pub retry_of : Reply → ℕ
-retry_of (Fresh set left) = 0
-retry_of (Stale set left) = 0
-retry_of (NoData soa left) = 0
-retry_of (NxDomain soa left) = 0
-retry_of (Miss None) = 0
-retry_of (Miss (Some moment)) = moment
+abbrev pub fields_of : Reply → ReplyFields
+fields_of (Fresh set left) = record { kind = 1; left = left; retry_from = 0; owner = set.owner; items = set.items }
+fields_of (Stale set left) = record { kind = 2; left = left; retry_from = 0; owner = set.owner; items = set.items }
+fields_of (NoData soa left) = record { kind = 3; left = left; retry_from = 0; owner = soa.owner; items = soa.octets ∷ [] }
+fields_of (NxDomain soa left) = record { kind = 4; left = left; retry_from = 0; owner = soa.owner; items = soa.octets ∷ [] }
+fields_of (Miss None) = record { kind = 5; left = 0; retry_from = 0; owner = []; items = [] }
+fields_of (Miss (Some moment)) = record { kind = 6; left = 0; retry_from = moment; owner = []; items = [] }
 
 -- the octets of a reply: its owner, and behind it its data
 abbrev pub text_of : Reply → List ℕ
-text_of reply = owner_of reply ++ data_text (data_of reply)
+text_of reply = (fields_of reply).owner ++ data_text (fields_of reply).items
 
 -- what is kept, by its number: 1 data, 3 that there are none of the type, 4 that the name does not
 -- exist, 6 that asking failed
@@ -91,12 +66,12 @@ record_of (Some entry) age =
 -- the record of a reply to a question of a type, from an entry
 abbrev pub told_of : ℕ → Reply → EntryRecord → ReplyRecord
 told_of rtype reply entry = record {
-  kind = kind_of reply;
+  kind = (fields_of reply).kind;
   rtype = rtype;
-  left = left_of reply;
-  retry_from = retry_of reply;
-  owner_size = length (owner_of reply);
-  data_size = length (data_text (data_of reply));
+  left = (fields_of reply).left;
+  retry_from = (fields_of reply).retry_from;
+  owner_size = length (fields_of reply).owner;
+  data_size = length (data_text (fields_of reply).items);
   entry = entry;
 }
 

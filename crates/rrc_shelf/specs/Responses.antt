@@ -1,6 +1,6 @@
 -- SPDX-License-Identifier: MIT
 -- What of a response to a query is read: what is relevant to it.
-use Rattle.std.specs.Prelude.{◌≡◌, ℕ, ◌⊎◌, List, Bool, true, false}
+use Rattle.std.specs.Prelude.{◌≡◌, ℕ, ◌⊎◌, List, [], ◌∷◌, ◌++◌, Bool, true, false}
 use Rattle.rrc_name.specs.Wire.{IsWireForm}
 use Rattle.rrc_wire.specs.declared.message.Message.{Message}
 use Rattle.rrc_sets.specs.Limits.{LimitsAre}
@@ -13,7 +13,9 @@ use Rattle.rrc_sets.specs.declared.query.QueryFault.TheVariants.{NoQuestion}
 use Rattle.rrc_sets.specs.declared.relevance.RelevanceLimits.{RelevanceLimits}
 use Rattle.rrc_shelf.specs.Readings.{HoldsOffers}
 use Rattle.rrc_shelf.specs.Summaries.{AreChosen, summary_of}
-use Rattle.rrc_shelf.specs.Refusals.{AreLimits, Because, DivisionRefused, IsDivision, NameRefused, OutOfMemory, Then}
+use Rattle.rrc_shelf.specs.Checks.{memory, unless, Check, Due, OutOfMemory, Passes}
+use Rattle.rrc_shelf.specs.Refusals.{division_checks, wire_check, AreLimits}
+use Rattle.rrc_shelf.specs.Statuses.{number_of}
 use Rattle.rrc_shelf.specs.declared.reading.Reading.{Reading}
 use Rattle.rrc_shelf.specs.declared.terms.ResponseTerms.{ResponseTerms}
 use Rattle.rrc_shelf.specs.declared.status.Status.TheVariants as statuses
@@ -63,19 +65,18 @@ pub record CannotBeRead (query : Query) (octets : List ℕ) : Type 0 where
 -- nothing relevant is made of octets
 abbrev pub AnswerRefused : Query → List ℕ → ℕ → Type 0
 AnswerRefused query octets number =
-    OutOfMemory number ⊎ (Because statuses.NoQuestion (IsHeaderAlone query octets) number ⊎ Because statuses.BadMessage (CannotBeRead query octets) number)
+    OutOfMemory number
+    ⊎ (((number ≡ number_of statuses.NoQuestion) × IsHeaderAlone query octets) ⊎ ((number ≡ number_of statuses.BadMessage) × CannotBeRead query octets))
 
--- all that is tested before is right, and octets answer no query, or another one
-pub record IsOtherAtLast (octets zone name : List ℕ) (terms : ResponseTerms) : Type 0 where
-  pub division : IsDivision terms.parts
-  pub limits : AreLimits terms.limits
-  pub zone_is : IsWireForm zone
-  pub name_is : IsWireForm name
-  pub other : IsOther (query_of name terms) octets
+-- what is checked before a response is compared with its query
+abbrev pub response_checks : List ℕ → List ℕ → ResponseTerms → List Check
+response_checks zone name terms =
+    division_checks terms.parts ++ (unless statuses.BadLimits (AreLimits terms.limits) ∷ memory ∷ wire_check zone ∷ wire_check name ∷ [])
+
+-- all of that passes, and octets answer no query, or another one
+abbrev pub IsOtherAtLast : List ℕ → List ℕ → List ℕ → ResponseTerms → Type 0
+IsOtherAtLast octets zone name terms = Passes (response_checks zone name terms) × IsOther (query_of name terms) octets
 
 -- a response is not read
 abbrev pub ResponseRefused : List ℕ → List ℕ → List ℕ → ResponseTerms → ℕ → Type 0
-ResponseRefused octets zone name terms =
-    Then (DivisionRefused terms.parts) (IsDivision terms.parts)
-    (Then (Because statuses.BadLimits (AreLimits terms.limits → ⊥)) (AreLimits terms.limits)
-    (Then (NameRefused zone) (IsWireForm zone) (Then (NameRefused name) (IsWireForm name) (AnswerRefused (query_of name terms) octets))))
+ResponseRefused octets zone name terms = Due (response_checks zone name terms) (AnswerRefused (query_of name terms) octets)

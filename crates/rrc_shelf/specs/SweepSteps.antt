@@ -1,11 +1,12 @@
 -- SPDX-License-Identifier: MIT
 -- A sweep in steps, so that no call is long.
-use Rattle.std.specs.Prelude.{◌≡◌, ℕ, ◌+◌, ◌-◌, ◌^◌, ◌<◌, min, ◌≤◌, ◌⊎◌, List, [], ◌∷◌, length}
+use Rattle.std.specs.Prelude.{◌≡◌, ℕ, ◌+◌, ◌-◌, ◌^◌, min, ◌≤◌, ◌⊎◌, List, [], ◌∷◌, length}
 use Rattle.std.specs.List.{AllByRecursion}
 use Rattle.rrc_cache.specs.Expiry.{NoneFullyExpiresBefore}
 use Rattle.rrc_history.specs.Lives.{LAST_MOMENT}
 use Rattle.rrc_share.specs.CacheShelf.{CacheShelfOf}
-use Rattle.rrc_shelf.specs.Refusals.{Because, Then, WriteDue}
+use Rattle.rrc_shelf.specs.Checks.{unless, Check, Passes, Refuses}
+use Rattle.rrc_shelf.specs.Refusals.{WriteDue}
 use Rattle.rrc_shelf.specs.Shelves.{IsLeftAs, MakesSweep}
 use Rattle.rrc_shelf.specs.declared.status.Status.TheVariants.{BadRules, MomentTooLarge}
 use Rattle.rrc_shelf.specs.declared.sweeps.Swept.{Swept}
@@ -34,10 +35,9 @@ pub record SweepsTo (sweep : SweepTerms) (removed : ℕ) (steps : List StepOf) (
   pub few : length steps ≤ sweep.most
   pub counted : removed ≡ removed_by steps
 
--- the sweep in steps may be made
-pub record AreSteps (sweep : SweepTerms) : Type 0 where
-  pub some : 1 ≤ sweep.most
-  pub moment : sweep.moment ≤ LAST_MOMENT
+-- what is checked of a sweep in steps: it is of some keys, at a moment that is not too large
+abbrev pub step_checks : SweepTerms → List Check
+step_checks sweep = unless BadRules (1 ≤ sweep.most) ∷ unless MomentTooLarge (sweep.moment ≤ LAST_MOMENT) ∷ []
 
 -- there were such sweeps, until no key is left that is fully expired at the moment, or as many keys were removed as were to be, or as
 -- many sweeps made
@@ -48,7 +48,7 @@ pub record SweepsAll (sweep : SweepTerms) (removed : ℕ) (old new : CacheShelfO
 
 -- it is told by 1 that no key is left which is fully expired at the moment
 pub record SweepsSome (sweep : SweepTerms) (swept : Swept) (old new : CacheShelfOf) : Type 0 where
-  pub fit : AreSteps sweep
+  pub fit : Passes (step_checks sweep)
   pub sweeps : SweepsAll sweep swept.removed old new
   pub known : swept.is_done ≤ 1
   pub done : swept.is_done ≡ 1 → NoneFullyExpiresBefore new.shelf.part (sweep.moment + 1)
@@ -65,7 +65,7 @@ pub record SweepsUpTo (number : ℕ) (sweep : SweepTerms) (removed : ℕ) (old n
 
 -- the same, and it is told that it is not done
 pub record SweepsFirst (number : ℕ) (sweep : SweepTerms) (swept : Swept) (old new : CacheShelfOf) : Type 0 where
-  pub fit : AreSteps sweep
+  pub fit : Passes (step_checks sweep)
   pub sweeps : SweepsUpTo number sweep swept.removed old new
   pub undone : swept.is_done ≡ 0
 
@@ -74,10 +74,6 @@ pub record SweepsNothing (swept : Swept) (old new : CacheShelfOf) : Type 0 where
   pub kept : new ≡ old
   pub none : swept ≡ record { removed = 0; is_done = 0 }
 
--- a sweep of no keys, and one at a moment that is too large, are refused at once
-abbrev pub StepsRefused : SweepTerms → ℕ → Type 0
-StepsRefused sweep = Then (Because BadRules (sweep.most ≡ 0)) (1 ≤ sweep.most) (Because MomentTooLarge (LAST_MOMENT < sweep.moment))
-
 -- what a refusal by this number leaves
 abbrev pub SweepsUntil : ℕ → SweepTerms → Swept → CacheShelfOf → CacheShelfOf → Type 0
-SweepsUntil number sweep swept old new = (SweepsNothing swept old new × StepsRefused sweep number) ⊎ SweepsFirst number sweep swept old new
+SweepsUntil number sweep swept old new = (SweepsNothing swept old new × Refuses (step_checks sweep) number) ⊎ SweepsFirst number sweep swept old new

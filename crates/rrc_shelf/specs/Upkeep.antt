@@ -13,21 +13,10 @@ use Rattle.rrc_wire.specs.declared.message.Message.{Message}
 use Rattle.rrc_shelf.specs.Shelves.{recorded_chapters, recorded_events}
 use Rattle.rrc_shelf.specs.declared.sizes.Sizes.{Sizes}
 
--- octets are a message
-pub record IsMessage (octets : List ℕ) (number : ℕ) : Type 0 where
-  pub message : Message
-  pub is : MessageOf octets message
-  pub none : number ≡ 0
-
--- octets have a first fault, of this number
-pub record HasFaultNumber (octets : List ℕ) (number : ℕ) : Type 0 where
-  pub fault : WireFault
-  pub first : FirstFault octets fault
-  pub told : number ≡ number_of fault
-
 -- 0 where octets are a message, and else the number of their first fault
 abbrev pub TellsFault : List ℕ → ℕ → Type 0
-TellsFault octets number = IsMessage octets number ⊎ HasFaultNumber octets number
+TellsFault octets number =
+    ((number ≡ 0) × ((message : Message) × MessageOf octets message)) ⊎ ((fault : WireFault) × FirstFault octets fault × (number ≡ number_of fault))
 
 -- how many keys the shelf holds, how many events the open chapter has and how many chapters are
 -- closed, of which there are none where nothing is recorded, and how many octets the entries of

@@ -1,8 +1,9 @@
 // SPDX-License-Identifier: MIT
-ghost use Rattle.std.specs.Prelude.{length, IfOk, OnErr, OnOk};
+ghost use Rattle.std.specs.Prelude.{◌≡◌, length, IfOk, OnErr, OnOk};
 ghost use Rattle.rrc_shelf.specs.Aliases.{ask_or_alias};
-ghost use Rattle.rrc_shelf.specs.Asks.{asked, AnswersOr, TellsNothing, TellsOr};
-ghost use Rattle.rrc_shelf.specs.Refusals.{AskAliasDue, AskDue, IsQuestion, PeekAliasDue, PeekDue};
+ghost use Rattle.rrc_shelf.specs.Asks.{asked, AnswersOr, TellsOr};
+ghost use Rattle.rrc_shelf.specs.Checks.{Passes};
+ghost use Rattle.rrc_shelf.specs.Refusals.{AskDue, PeekDue, question_checks};
 ghost use Rattle.rrc_shelf.specs.Shelves.{IsLeftAs};
 ghost use Rattle.rrc_shelf.specs.Statuses.{number_of_reply};
 
@@ -27,10 +28,10 @@ pub fn ask_shelf(
     buffer: &mut [u8],
 ) -> Result<bool, Status>
     ensures ok { IfOk result (λ fits. AnswersOr fits (asked name.now question.now) question.now.line told.new buffer.old buffer.new shelf.old shelf.new) }
-    ensures err { OnErr result (TellsNothing told.old buffer.old told.new buffer.new) }
+    ensures err { OnErr result ((told.new ≡ told.old) × (buffer.new ≡ buffer.old)) }
     ensures left { OnErr result (IsLeftAs shelf.old shelf.new) }
-    ensures fit { OnOk result (IsQuestion name.now question.now seed.now) }
-    ensures due { AskDue name.now question.now seed.now (length buffer.old) shelf.old (number_of_reply result) }
+    ensures fit { OnOk result (Passes (question_checks name.now question.now seed.now)) }
+    ensures due { AskDue name.now question.now seed.now (asked name.now question.now) (length buffer.old) shelf.old (number_of_reply result) }
 {
     let (ask, hash) = question_of(name, question, seed)?;
     answer(alloc, shelf, ask, hash, question.line, told, buffer)
@@ -47,10 +48,10 @@ pub fn ask_shelf_alias(
     buffer: &mut [u8],
 ) -> Result<bool, Status>
     ensures ok { IfOk result (λ fits. AnswersOr fits (ask_or_alias shelf.old (asked name.now question.now)) question.now.line told.new buffer.old buffer.new shelf.old shelf.new) }
-    ensures err { OnErr result (TellsNothing told.old buffer.old told.new buffer.new) }
+    ensures err { OnErr result ((told.new ≡ told.old) × (buffer.new ≡ buffer.old)) }
     ensures left { OnErr result (IsLeftAs shelf.old shelf.new) }
-    ensures fit { OnOk result (IsQuestion name.now question.now seed.now) }
-    ensures due { AskAliasDue name.now question.now seed.now (length buffer.old) shelf.old (number_of_reply result) }
+    ensures fit { OnOk result (Passes (question_checks name.now question.now seed.now)) }
+    ensures due { AskDue name.now question.now seed.now (ask_or_alias shelf.old (asked name.now question.now)) (length buffer.old) shelf.old (number_of_reply result) }
 {
     let (ask, hash) = question_of(name, question, seed)?;
     let (chosen, _) = ask_or_alias(shelf, ask, hash);
@@ -67,9 +68,9 @@ pub fn peek_at_shelf(
     buffer: &mut [u8],
 ) -> Result<bool, Status>
     ensures ok { IfOk result (λ fits. TellsOr fits (asked name.now question.now) shelf.now told.new buffer.old buffer.new) }
-    ensures err { OnErr result (TellsNothing told.old buffer.old told.new buffer.new) }
-    ensures fit { OnOk result (IsQuestion name.now question.now seed.now) }
-    ensures due { PeekDue name.now question.now seed.now (length buffer.old) shelf.now (number_of_reply result) }
+    ensures err { OnErr result ((told.new ≡ told.old) × (buffer.new ≡ buffer.old)) }
+    ensures fit { OnOk result (Passes (question_checks name.now question.now seed.now)) }
+    ensures due { PeekDue name.now question.now seed.now (asked name.now question.now) (length buffer.old) shelf.now (number_of_reply result) }
 {
     let (ask, hash) = question_of(name, question, seed)?;
     show(shelf, ask, hash, told, buffer)
@@ -85,9 +86,9 @@ pub fn peek_at_alias(
     buffer: &mut [u8],
 ) -> Result<bool, Status>
     ensures ok { IfOk result (λ fits. TellsOr fits (ask_or_alias shelf.now (asked name.now question.now)) shelf.now told.new buffer.old buffer.new) }
-    ensures err { OnErr result (TellsNothing told.old buffer.old told.new buffer.new) }
-    ensures fit { OnOk result (IsQuestion name.now question.now seed.now) }
-    ensures due { PeekAliasDue name.now question.now seed.now (length buffer.old) shelf.now (number_of_reply result) }
+    ensures err { OnErr result ((told.new ≡ told.old) × (buffer.new ≡ buffer.old)) }
+    ensures fit { OnOk result (Passes (question_checks name.now question.now seed.now)) }
+    ensures due { PeekDue name.now question.now seed.now (ask_or_alias shelf.now (asked name.now question.now)) (length buffer.old) shelf.now (number_of_reply result) }
 {
     let (ask, hash) = question_of(name, question, seed)?;
     let (chosen, lookup) = ask_or_alias(shelf, ask, hash);

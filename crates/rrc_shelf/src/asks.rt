@@ -1,12 +1,13 @@
 // SPDX-License-Identifier: MIT
-ghost use Rattle.std.specs.Prelude.{◌≡◌, ℕ, ◌+◌, ◌≤◌, ◌↔◌, length, false, IsTrue, IfOk, IfErr, OnOk, OnErr};
+ghost use Rattle.std.specs.Prelude.{◌≡◌, ℕ, ◌+◌, ◌≤◌, ◌↔◌, ◌∷◌, [], length, false, IsTrue, IfOk, IfErr, OnOk, OnErr};
 ghost use Rattle.rrc_cache.specs.Lookups.{TellsLookup};
 ghost use Rattle.rrc_cache.specs.Seeds.{IsHashOf};
-ghost use Rattle.rrc_shelf.specs.Asks.{reply_of, AnswersOr, TellsNothing, TellsOr, TellsRecord};
-ghost use Rattle.rrc_shelf.specs.Refusals.{AnswerDue, NoteDue, ReplyRefused, TellingThen, WriteDue};
+ghost use Rattle.rrc_shelf.specs.Asks.{reply_of, AnswersOr, TellsOr, TellsRecord};
+ghost use Rattle.rrc_shelf.specs.Checks.{Due, IsDone, Refuses};
+ghost use Rattle.rrc_shelf.specs.Refusals.{AnswerDue, NoteDue, WriteDue, reply_check, telling_checks};
 ghost use Rattle.rrc_shelf.specs.Shelves.{IsLeftAs, MakesAsk};
 ghost use Rattle.rrc_shelf.specs.Statuses.{number_of, number_of_call, number_of_reply};
-ghost use Rattle.rrc_shelf.specs.ReplyRecord.{data_of, AreTellable};
+ghost use Rattle.rrc_shelf.specs.ReplyRecord.{fields_of, AreTellable};
 ghost use Rattle.rrc_history.specs.Views.{ask_in};
 
 use crate::reply_record::{ReplyRecord, data_of, owner_of, told_of};
@@ -31,8 +32,8 @@ pub(crate) fn has_room(buffer: &[u8], told: &ReplyRecord) -> bool
 fn record_in(shelf: &CacheShelf, ask: AskRef<'_>, lookup: Lookup<'_>) -> Result<ReplyRecord, Status>
     requires { TellsLookup shelf.now.shelf.part (ask_in ask) lookup }
     ensures record { IfOk result (TellsRecord (ask_in ask.entry) shelf.now) }
-    ensures tellable { OnOk result (AreTellable (data_of (reply_of shelf.now (ask_in ask.entry)))) }
-    ensures refused { IfErr result (λ status. ReplyRefused (reply_of shelf.now (ask_in ask.entry)) (number_of status)) }
+    ensures tellable { OnOk result (AreTellable (fields_of (reply_of shelf.now (ask_in ask.entry))).items) }
+    ensures refused { IfErr result (λ status. Refuses (reply_check (reply_of shelf.now (ask_in ask.entry)) ∷ []) (number_of status)) }
 {
     match told_of(ask.rtype, lookup) {
         Some(record) => Ok(record),
@@ -52,9 +53,9 @@ fn tell(
 ) -> Result<bool, Status>
     requires { TellsLookup shelf.now.shelf.part (ask_in ask) lookup }
     ensures ok { IfOk result (λ fits. TellsOr fits (ask_in ask.entry) shelf.now told.new buffer.old buffer.new) }
-    ensures err { OnErr result (TellsNothing told.old buffer.old told.new buffer.new) }
-    ensures tellable { OnOk result (AreTellable (data_of (reply_of shelf.now (ask_in ask.entry)))) }
-    ensures refused { IfErr result (λ status. ReplyRefused (reply_of shelf.now (ask_in ask.entry)) (number_of status)) }
+    ensures err { OnErr result ((told.new ≡ told.old) × (buffer.new ≡ buffer.old)) }
+    ensures tellable { OnOk result (AreTellable (fields_of (reply_of shelf.now (ask_in ask.entry))).items) }
+    ensures refused { IfErr result (λ status. Refuses (reply_check (reply_of shelf.now (ask_in ask.entry)) ∷ []) (number_of status)) }
 {
     let record = record_in(shelf, ask, lookup)?;
     let fits = has_room(buffer, &record);
@@ -77,8 +78,8 @@ pub(crate) fn show(
 ) -> Result<bool, Status>
     requires { IsHashOf hash (ask_in ask).name }
     ensures ok { IfOk result (λ fits. TellsOr fits (ask_in ask.entry) shelf.now told.new buffer.old buffer.new) }
-    ensures err { OnErr result (TellsNothing told.old buffer.old told.new buffer.new) }
-    ensures due { TellingThen (reply_of shelf.now (ask_in ask.entry)) (length buffer.old) (λ number. number ≡ 0) (number_of_reply result) }
+    ensures err { OnErr result ((told.new ≡ told.old) × (buffer.new ≡ buffer.old)) }
+    ensures due { Due (telling_checks (reply_of shelf.now (ask_in ask.entry)) (length buffer.old)) IsDone (number_of_reply result) }
 {
     show_lookup(shelf, ask, shelf.lookup(ask, hash), told, buffer)
 }
@@ -94,8 +95,8 @@ pub(crate) fn show_lookup(
 ) -> Result<bool, Status>
     requires { TellsLookup shelf.now.shelf.part (ask_in ask) lookup }
     ensures ok { IfOk result (λ fits. TellsOr fits (ask_in ask.entry) shelf.now told.new buffer.old buffer.new) }
-    ensures err { OnErr result (TellsNothing told.old buffer.old told.new buffer.new) }
-    ensures due { TellingThen (reply_of shelf.now (ask_in ask.entry)) (length buffer.old) (λ number. number ≡ 0) (number_of_reply result) }
+    ensures err { OnErr result ((told.new ≡ told.old) × (buffer.new ≡ buffer.old)) }
+    ensures due { Due (telling_checks (reply_of shelf.now (ask_in ask.entry)) (length buffer.old)) IsDone (number_of_reply result) }
 {
     tell(shelf, ask, lookup, told, buffer)
 }
@@ -122,9 +123,9 @@ fn answer_sized(
 ) -> Result<bool, Status>
     requires { IsHashOf hash ask.now.name }
     ensures ok { IfOk result (λ fits. AnswersOr fits ask.now line told.new buffer.old buffer.new shelf.old shelf.new) }
-    ensures err { OnErr result (TellsNothing told.old buffer.old told.new buffer.new) }
+    ensures err { OnErr result ((told.new ≡ told.old) × (buffer.new ≡ buffer.old)) }
     ensures left { OnErr result (IsLeftAs shelf.old shelf.new) }
-    ensures due { TellingThen (reply_of shelf.old ask.now) (length buffer.old) (WriteDue shelf.old ask.now.moment) (number_of_reply result) }
+    ensures due { Due (telling_checks (reply_of shelf.old ask.now) (length buffer.old)) (WriteDue shelf.old ask.now.moment) (number_of_reply result) }
 {
     let lent = ask.as_ref();
     let record = record_in(shelf, lent, shelf.lookup(lent, hash))?;
@@ -152,7 +153,7 @@ fn refuse(
     requires hash { IsHashOf hash (ask_in ask).name }
     ensures ok { IfOk result (λ fits. (line : ℕ) → AnswersOr fits (ask_in ask.entry) line told.new buffer.now buffer.now shelf.now shelf.now) }
     ensures err { OnErr result (told.new ≡ told.old) }
-    ensures due { TellingThen (reply_of shelf.now (ask_in ask.entry)) (length buffer.now) (NoteDue shelf.now (ask_in ask.entry).moment) (number_of_reply result) }
+    ensures due { Due (telling_checks (reply_of shelf.now (ask_in ask.entry)) (length buffer.now)) (NoteDue shelf.now (ask_in ask.entry).moment) (number_of_reply result) }
 {
     let record = record_in(shelf, ask, shelf.lookup(ask, hash))?;
     if has_room(buffer, &record) {
@@ -176,9 +177,9 @@ fn answer_lean(
     requires lean { shelf.old.records ≡ false }
     requires hash { IsHashOf hash (ask_in ask).name }
     ensures ok { IfOk result (λ fits. AnswersOr fits (ask_in ask.entry) line told.new buffer.old buffer.new shelf.old shelf.new) }
-    ensures err { OnErr result (TellsNothing told.old buffer.old told.new buffer.new) }
+    ensures err { OnErr result ((told.new ≡ told.old) × (buffer.new ≡ buffer.old)) }
     ensures left { OnErr result (IsLeftAs shelf.old shelf.new) }
-    ensures due { TellingThen (reply_of shelf.old (ask_in ask.entry)) (length buffer.old) (NoteDue shelf.old (ask_in ask.entry).moment) (number_of_reply result) }
+    ensures due { Due (telling_checks (reply_of shelf.old (ask_in ask.entry)) (length buffer.old)) (NoteDue shelf.old (ask_in ask.entry).moment) (number_of_reply result) }
 {
     let (lookup, pick) = match shelf.judge(ask, hash) {
         Ok(judged) => judged,
@@ -205,7 +206,7 @@ pub(crate) fn answer(
 ) -> Result<bool, Status>
     requires { IsHashOf hash (ask_in ask).name }
     ensures ok { IfOk result (λ fits. AnswersOr fits (ask_in ask.entry) line told.new buffer.old buffer.new shelf.old shelf.new) }
-    ensures err { OnErr result (TellsNothing told.old buffer.old told.new buffer.new) }
+    ensures err { OnErr result ((told.new ≡ told.old) × (buffer.new ≡ buffer.old)) }
     ensures left { OnErr result (IsLeftAs shelf.old shelf.new) }
     ensures due { AnswerDue shelf.old.records shelf.old (reply_of shelf.old (ask_in ask.entry)) (length buffer.old) (ask_in ask.entry).moment (number_of_reply result) }
 {

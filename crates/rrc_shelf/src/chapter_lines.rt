@@ -3,7 +3,7 @@ ghost use Rattle.std.specs.Prelude.{◌≡◌, ◌∷◌, ◌++◌, [], length, 
 ghost use Rattle.std.specs.Option.{option_map};
 ghost use Rattle.rrc_archive.specs.Archive.{line_text};
 ghost use Rattle.rrc_shelf.specs.Chapters.{line_at, LineDue, TellsLine};
-ghost use Rattle.rrc_shelf.specs.Refusals.{OutOfMemory};
+ghost use Rattle.rrc_shelf.specs.Checks.{OutOfMemory};
 ghost use Rattle.rrc_shelf.specs.Statuses.{number_of, OnDone, OnRefused};
 ghost use Rattle.rrc_shelf.specs.ReplyRecord.{IsFilled};
 

@@ -1,7 +1,8 @@
 // SPDX-License-Identifier: MIT
-ghost use Rattle.std.specs.Prelude.{◌≡◌, ◌≤◌, ◌<◌, ◌/◌, ◌%◌, ◌^◌, true, IfErr, OnOk};
+ghost use Rattle.std.specs.Prelude.{◌≡◌, ◌≤◌, ◌<◌, ◌/◌, ◌%◌, ◌^◌, ◌∷◌, [], true, IfErr, OnOk};
 ghost use Rattle.rrc_shelf.specs.Parts.{keyed_part_of};
-ghost use Rattle.rrc_shelf.specs.Refusals.{Because, DivisionRefused, IsDivision, IsPartCount, SeedRefused, is_seed};
+ghost use Rattle.rrc_shelf.specs.Checks.{unless, Passes, Refuses};
+ghost use Rattle.rrc_shelf.specs.Refusals.{division_checks, is_seed};
 ghost use Rattle.rrc_shelf.specs.Statuses.{number_of};
 ghost use Rattle.rrc_name.specs.Key.{IsFolded};
 ghost use Rattle.rrc_name.specs.NameRef.{name_in};
@@ -16,8 +17,8 @@ const MOST_PARTS: u64 = 64;
 
 /// Whether there may be so many parts.
 fn check_parts(parts: u64) -> Result<(), Status>
-    ensures fit { OnOk result (IsPartCount parts) }
-    ensures refused { IfErr result (λ status. Because Status.BadRules (IsPartCount parts → ⊥) (number_of status)) }
+    ensures fit { OnOk result ((1 ≤ parts) × (parts ≤ 64)) }
+    ensures refused { IfErr result (λ status. Refuses (unless Status.BadRules ((1 ≤ parts) × (parts ≤ 64)) ∷ []) (number_of status)) }
 {
     if !(1..=MOST_PARTS).contains(&parts) {
         return Err(Status::BadRules);
@@ -36,7 +37,7 @@ fn is_seed(seed: &[u8; 16]) -> bool
 /// Whether a seed is none that was forgotten.
 pub(crate) fn check_seed(seed: &[u8; 16]) -> Result<(), Status>
     ensures fit { OnOk result (is_seed seed.now ≡ true) }
-    ensures refused { IfErr result (λ status. SeedRefused seed.now (number_of status)) }
+    ensures refused { IfErr result (λ status. Refuses (unless Status.BadSeed (is_seed seed.now ≡ true) ∷ []) (number_of status)) }
 {
     if !is_seed(seed) {
         return Err(Status::BadSeed);
@@ -46,8 +47,8 @@ pub(crate) fn check_seed(seed: &[u8; 16]) -> Result<(), Status>
 
 /// Whether names may be divided so.
 pub(crate) fn check_division(division: &Division) -> Result<(), Status>
-    ensures fit { OnOk result (IsDivision division.now) }
-    ensures refused { IfErr result (λ status. DivisionRefused division.now (number_of status)) }
+    ensures fit { OnOk result (Passes (division_checks division.now)) }
+    ensures refused { IfErr result (λ status. Refuses (division_checks division.now) (number_of status)) }
 {
     check_parts(division.count)?;
     check_seed(&division.seed)

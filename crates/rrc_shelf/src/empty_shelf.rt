@@ -1,7 +1,8 @@
 // SPDX-License-Identifier: MIT
 ghost use Rattle.std.specs.Prelude.{IfOk};
 ghost use Rattle.rrc_shelf.specs.NewShelf.{IsNew};
-ghost use Rattle.rrc_shelf.specs.Refusals.{NewDue};
+ghost use Rattle.rrc_shelf.specs.Checks.{Due, IsDoneOrMemory};
+ghost use Rattle.rrc_shelf.specs.Refusals.{rules_checks};
 ghost use Rattle.rrc_shelf.specs.Statuses.{number_of_call};
 
 use crate::division::check_seed;
@@ -15,7 +16,7 @@ use std::alloc::Global;
 /// An empty shelf by these rules. Nothing is recorded.
 pub fn new_shelf(alloc: Global, terms: &ShelfRules) -> Result<Box<CacheShelf>, Status>
     ensures new { IfOk result (λ shelf. IsNew terms.now shelf.value) }
-    ensures due { NewDue terms.now (number_of_call result) }
+    ensures due { Due (rules_checks terms.now) IsDoneOrMemory (number_of_call result) }
 {
     let Some(rules) = Rules::new(terms.capacity, terms.chapter, terms.max_stale) else {
         return Err(Status::BadRules);

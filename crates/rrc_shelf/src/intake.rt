@@ -1,10 +1,11 @@
 // SPDX-License-Identifier: MIT
-ghost use Rattle.std.specs.Prelude.{◌≡◌, ◌≤◌, ◌<◌, ◌+◌, ◌^◌, ◌++◌, ℕ, [], length, true, false, IfOk, IfErr, IfSome, OnOk, OnErr};
+ghost use Rattle.std.specs.Prelude.{◌≡◌, ◌≤◌, ◌<◌, ◌+◌, ◌*◌, ◌⊎◌, ◌^◌, ◌++◌, ◌∷◌, ℕ, [], length, slice_index, true, false, IfOk, IfErr, IfSome, OnOk, OnErr};
 ghost use Rattle.std.specs.List.{AllByRecursion};
 ghost use Rattle.rrc_shelf.specs.ReplyRecord.{datum, data_text};
-ghost use Rattle.rrc_shelf.specs.Intake.{trust_of, denied, denial_offer, failure_offer, outcome_number, count_more, counts_of, AreAt, AreOffered, IsSetOffer, TakesOne, TakesAll, TakesFirst, TakesMessage, TakesSet, TakesSome, total};
-ghost use Rattle.rrc_shelf.specs.PartIntake.{own_share, IsPart, TakesPart, TakesSomeOfPart};
-ghost use Rattle.rrc_shelf.specs.Refusals.{AreLimits, Because, DataRefused, DatumRefused, DenialDue, DenialRefused, FailureDue, FailureRefused, IsCutOff, IsDenial, IsFailure, IsSet, MessageRefused, OffersRefused, SetDue, SetRefused, WriteDue, denies_kept, is_seed, IsTrust, IsNoTrust};
+ghost use Rattle.rrc_shelf.specs.Intake.{trust_of, denied, denial_offer, failure_offer, outcome_number, count_more, counts_of, AreAt, AreOffered, IsSetOffer, TakesOne, TakesAll, TakesFirst, TakesMessage, TakesSet, TakesSome, total, whole};
+ghost use Rattle.rrc_shelf.specs.Checks.{memory, unless, Due, Passes, Refuses};
+ghost use Rattle.rrc_shelf.specs.PartIntake.{own_share, part_checks, IsPart};
+ghost use Rattle.rrc_shelf.specs.Refusals.{denial_checks, denies_kept, failure_checks, message_check, message_checks, set_checks, AreData, AreLimits, IsTrust, WriteDue};
 ghost use Rattle.rrc_shelf.specs.Shelves.{IsLeftAs};
 ghost use Rattle.rrc_shelf.specs.Statuses.{number_of, number_of_call};
 ghost use Rattle.rrc_history.specs.Fits.{fits};
@@ -53,7 +54,7 @@ fn denied(negative: &NegativeTerms) -> Slot
 fn data_in(alloc: Global, rtype: u16, octets: &[u8]) -> Result<Octets, Status>
     ensures rdata { IfOk result (λ rdata. rdata ≡ octets.now) }
     ensures plain { OnOk result (IsPlain rtype octets.now) }
-    ensures refused { IfErr result (λ status. DatumRefused rtype octets.now (number_of status)) }
+    ensures refused { IfErr result (λ status. Refuses (memory ∷ unless Status.BadData (IsPlain rtype octets.now) ∷ []) (number_of status)) }
 {
     match plain_rdata(alloc, rtype, octets) {
         Ok(rdata) => Ok(rdata),
@@ -65,7 +66,7 @@ fn data_in(alloc: Global, rtype: u16, octets: &[u8]) -> Result<Octets, Status>
 /// The datum that stands first behind its length, and what stands behind it.
 fn first_datum(octets: &[u8]) -> Result<(&[u8], &[u8]), Status>
     ensures parts { IfOk result (λ both. octets.now ≡ datum both.0.now ++ both.1.now) }
-    ensures cut_off { IfErr result (λ status. Because Status.BadData (IsCutOff octets.now) (number_of status)) }
+    ensures cut_off { IfErr result (λ status. (number_of status ≡ number_of Status.BadData) × ((length octets.now < 2) ⊎ (length octets.now < slice_index octets.now 0 * 256 + slice_index octets.now 1 + 2))) }
 {
     if octets.len() < 2 {
         return Err(Status::BadData);
@@ -92,7 +93,7 @@ fn only_datum(octets: &[u8]) -> Option<&[u8]>
 fn items_in(alloc: Global, rtype: u16, octets: &[u8]) -> Result<Sequence<Octets>, Status>
     ensures stand { IfOk result (λ items. data_text items ≡ octets.now) }
     ensures plain { IfOk result (AllByRecursion (IsPlain rtype)) }
-    ensures refused { IfErr result (λ status. DataRefused rtype octets.now (number_of status)) }
+    ensures refused { IfErr result (λ status. Refuses (memory ∷ unless Status.BadData (AreData rtype octets.now) ∷ []) (number_of status)) }
 {
     let mut items = Sequence::new(alloc);
     let mut rest = octets;
@@ -108,7 +109,7 @@ fn items_in(alloc: Global, rtype: u16, octets: &[u8]) -> Result<Sequence<Octets>
 fn rdata_in(alloc: Global, rtype: u16, octets: &[u8]) -> Result<RdataList, Status>
     ensures stand { IfOk result (λ items. data_text items ≡ octets.now) }
     ensures plain { IfOk result (AllByRecursion (IsPlain rtype)) }
-    ensures refused { IfErr result (λ status. DataRefused rtype octets.now (number_of status)) }
+    ensures refused { IfErr result (λ status. Refuses (memory ∷ unless Status.BadData (AreData rtype octets.now) ∷ []) (number_of status)) }
 {
     if let Some(datum) = only_datum(octets) {
         return Ok(RdataList::one(data_in(alloc, rtype, datum)?));
@@ -121,7 +122,7 @@ fn rdata_in(alloc: Global, rtype: u16, octets: &[u8]) -> Result<RdataList, Statu
 fn offer_of(key: Key, body: Body, moment: u64) -> Result<Offer, Status>
     ensures offer { IfOk result (λ offer. offer ≡ record { key = key; body = body; moment = moment }) }
     ensures fit { OnOk result (fits key body ≡ true) }
-    ensures refused { IfErr result (λ status. Because Status.WrongBody (fits key body ≡ false) (number_of status)) }
+    ensures refused { IfErr result (λ status. (number_of status ≡ number_of Status.WrongBody) × (fits key body ≡ false)) }
 {
     match Offer::new(key, body, moment) {
         Ok(offer) => Ok(offer),
@@ -132,7 +133,7 @@ fn offer_of(key: Key, body: Body, moment: u64) -> Result<Offer, Status>
 /// Whether a number is that of a trust.
 fn check_trust(trust: u32) -> Result<(), Status>
     ensures fit { OnOk result (IsTrust trust) }
-    ensures refused { IfErr result (λ status. Because Status.BadChoice (IsNoTrust trust) (number_of status)) }
+    ensures refused { IfErr result (λ status. Refuses (unless Status.BadChoice (IsTrust trust) ∷ []) (number_of status)) }
 {
     if !(1..=4).contains(&trust) {
         return Err(Status::BadChoice);
@@ -143,8 +144,8 @@ fn check_trust(trust: u32) -> Result<(), Status>
 /// The offer of a set.
 fn set_offer(alloc: Global, owner: &[u8], set: &SetTerms, octets: &[u8]) -> Result<Offer, Status>
     ensures offer { IfOk result (IsSetOffer owner.now set.now octets.now) }
-    ensures fit { OnOk result (IsSet owner.now set.now octets.now) }
-    ensures refused { IfErr result (λ status. SetRefused owner.now set.now octets.now (number_of status)) }
+    ensures fit { OnOk result (Passes (set_checks owner.now set.now octets.now)) }
+    ensures refused { IfErr result (λ status. Refuses (set_checks owner.now set.now octets.now) (number_of status)) }
 {
     check_trust(set.trust)?;
     if !is_kept(set.rtype, set.rclass) {
@@ -182,8 +183,8 @@ fn negative_offer(
     soa: &[u8],
 ) -> Result<Offer, Status>
     ensures offer { IfOk result (λ offer. offer ≡ denial_offer name.now negative.now soa_owner.now soa.now) }
-    ensures fit { OnOk result (IsDenial name.now negative.now soa_owner.now soa.now) }
-    ensures refused { IfErr result (λ status. DenialRefused name.now negative.now soa_owner.now soa.now (number_of status)) }
+    ensures fit { OnOk result (Passes (denial_checks name.now negative.now soa_owner.now soa.now)) }
+    ensures refused { IfErr result (λ status. Refuses (denial_checks name.now negative.now soa_owner.now soa.now) (number_of status)) }
 {
     if !(1..=4).contains(&negative.trust) || !(3..=4).contains(&negative.denial) {
         return Err(Status::BadChoice);
@@ -204,8 +205,8 @@ fn negative_offer(
 /// The offer of a failure.
 fn failure_offer(alloc: Global, name: &[u8], failure: &FailureTerms) -> Result<Offer, Status>
     ensures offer { IfOk result (λ offer. offer ≡ failure_offer name.now failure.now) }
-    ensures fit { OnOk result (IsFailure name.now failure.now) }
-    ensures refused { IfErr result (λ status. FailureRefused name.now failure.now (number_of status)) }
+    ensures fit { OnOk result (Passes (failure_checks name.now failure.now)) }
+    ensures refused { IfErr result (λ status. Refuses (failure_checks name.now failure.now) (number_of status)) }
 {
     if !is_kept(failure.rtype, failure.rclass) {
         return Err(Status::BadType);
@@ -273,7 +274,7 @@ pub(crate) fn take_each(
 pub(crate) fn limits_of(bounds: &Bounds) -> Result<Limits, Status>
     ensures limits { IfOk result (λ limits. LimitsAre limits bounds.now.cap bounds.now.negative_cap bounds.now.recheck) }
     ensures fit { OnOk result (AreLimits bounds.now) }
-    ensures refused { IfErr result (λ status. Because Status.BadLimits (AreLimits bounds.now → ⊥) (number_of status)) }
+    ensures refused { IfErr result (λ status. Refuses (unless Status.BadLimits (AreLimits bounds.now) ∷ []) (number_of status)) }
 {
     match Limits::new(bounds.cap, bounds.negative_cap, bounds.recheck) {
         Some(limits) => Ok(limits),
@@ -291,7 +292,7 @@ fn offers_of_message(
 ) -> Result<Vec<Offer>, Status>
     ensures offers { IfOk result (λ made. Brings limits.now octets.now zone.now moment made.items) }
     ensures moments { IfOk result (λ made. AreAt moment made.items) }
-    ensures refused { IfErr result (λ status. MessageRefused octets.now (number_of status)) }
+    ensures refused { IfErr result (λ status. Refuses (memory ∷ message_check octets.now ∷ []) (number_of status)) }
 {
     match rrc_sets::offers_in(alloc, octets, zone, moment, limits) {
         Ok(offers) => Ok(offers),
@@ -309,8 +310,8 @@ pub(crate) fn offers_in(
 ) -> Result<Vec<Offer>, Status>
     ensures offers { IfOk result (λ made. AreOffered octets.now zone.now terms.now made.items) }
     ensures moments { IfOk result (λ made. AreAt terms.now.moment made.items) }
-    ensures limits { OnOk result (AreLimits terms.now.limits) }
-    ensures refused { IfErr result (λ status. OffersRefused octets.now zone.now terms.now.limits (number_of status)) }
+    ensures fit { OnOk result (Passes (message_checks octets.now zone.now terms.now.limits)) }
+    ensures refused { IfErr result (λ status. Refuses (message_checks octets.now zone.now terms.now.limits) (number_of status)) }
 {
     let limits = limits_of(&terms.limits)?;
     let zone = name_of(alloc, zone)?;
@@ -334,8 +335,8 @@ pub fn offer_message(
     terms: &ResponseTerms,
     counts: &mut Counts,
 ) -> Result<(), Status>
-    ensures ok { OnOk result (TakesMessage octets.now zone.now terms.now counts.new shelf.old shelf.new) }
-    ensures err { IfErr result (λ status. TakesSome (number_of status) octets.now zone.now terms.now counts.new shelf.old shelf.new) }
+    ensures ok { OnOk result (TakesMessage whole octets.now zone.now terms.now counts.new shelf.old shelf.new) }
+    ensures err { IfErr result (λ status. TakesSome (message_checks octets.now zone.now terms.now.limits) whole (number_of status) octets.now zone.now terms.now counts.new shelf.old shelf.new) }
 {
     *counts = NONE;
     let offered = offers_in(alloc, octets, zone, terms)?;
@@ -355,7 +356,7 @@ fn own_share(offers: Vec<Offer>, terms: &ResponseTerms) -> Vec<Offer>
 /// Whether there are so many parts, and this is one of them.
 fn check_part(parts: u64, part: u64) -> Result<(), Status>
     ensures fit { OnOk result (IsPart parts part) }
-    ensures refused { IfErr result (λ status. Because Status.BadRules (IsPart parts part → ⊥) (number_of status)) }
+    ensures refused { IfErr result (λ status. Refuses (unless Status.BadRules (IsPart parts part) ∷ []) (number_of status)) }
 {
     if !(1..=64).contains(&parts) || part >= parts {
         return Err(Status::BadRules);
@@ -374,11 +375,9 @@ pub fn offer_part(
     seed: &[u8; 16],
     counts: &mut Counts,
 ) -> Result<(), Status>
-    ensures ok { OnOk result (TakesPart octets.now zone.now terms.now counts.new shelf.old shelf.new) }
-    ensures part { OnOk result (IsPart terms.now.parts.count terms.now.part) }
-    ensures seed { OnOk result (is_seed terms.now.parts.seed ≡ true) }
-    ensures seeded { OnOk result (terms.now.parts.seed ≡ seed.now) }
-    ensures err { IfErr result (λ status. TakesSomeOfPart (number_of status) octets.now zone.now terms.now seed.now counts.new shelf.old shelf.new) }
+    ensures ok { OnOk result (TakesMessage (own_share terms.now) octets.now zone.now terms.now counts.new shelf.old shelf.new) }
+    ensures fit { OnOk result (Passes (part_checks octets.now zone.now terms.now seed.now)) }
+    ensures err { IfErr result (λ status. TakesSome (part_checks octets.now zone.now terms.now seed.now) (own_share terms.now) (number_of status) octets.now zone.now terms.now counts.new shelf.old shelf.new) }
 {
     *counts = NONE;
     check_part(terms.parts.count, terms.part)?;
@@ -400,8 +399,8 @@ pub fn take_set(
 ) -> Result<u32, Status>
     ensures ok { IfOk result (λ number. TakesSet owner.now set.now octets.now number shelf.old shelf.new) }
     ensures left { OnErr result (IsLeftAs shelf.old shelf.new) }
-    ensures fit { OnOk result (IsSet owner.now set.now octets.now) }
-    ensures due { SetDue owner.now set.now octets.now shelf.old (number_of_call result) }
+    ensures fit { OnOk result (Passes (set_checks owner.now set.now octets.now)) }
+    ensures due { Due (set_checks owner.now set.now octets.now) (WriteDue shelf.old set.now.moment) (number_of_call result) }
 {
     let offer = set_offer(alloc, owner, set, octets)?;
     make_offer(shelf, set.line, offer)
@@ -418,8 +417,8 @@ pub fn take_negative(
 ) -> Result<u32, Status>
     ensures ok { IfOk result (λ number. TakesOne negative.now.line (denial_offer name.now negative.now soa_owner.now soa.now) number shelf.old shelf.new) }
     ensures left { OnErr result (IsLeftAs shelf.old shelf.new) }
-    ensures fit { OnOk result (IsDenial name.now negative.now soa_owner.now soa.now) }
-    ensures due { DenialDue name.now negative.now soa_owner.now soa.now shelf.old (number_of_call result) }
+    ensures fit { OnOk result (Passes (denial_checks name.now negative.now soa_owner.now soa.now)) }
+    ensures due { Due (denial_checks name.now negative.now soa_owner.now soa.now) (WriteDue shelf.old negative.now.moment) (number_of_call result) }
 {
     let offer = negative_offer(alloc, name, negative, soa_owner, soa)?;
     make_offer(shelf, negative.line, offer)
@@ -434,8 +433,8 @@ pub fn take_failure(
 ) -> Result<u32, Status>
     ensures ok { IfOk result (λ number. TakesOne failure.now.line (failure_offer name.now failure.now) number shelf.old shelf.new) }
     ensures left { OnErr result (IsLeftAs shelf.old shelf.new) }
-    ensures fit { OnOk result (IsFailure name.now failure.now) }
-    ensures due { FailureDue name.now failure.now shelf.old (number_of_call result) }
+    ensures fit { OnOk result (Passes (failure_checks name.now failure.now)) }
+    ensures due { Due (failure_checks name.now failure.now) (WriteDue shelf.old failure.now.moment) (number_of_call result) }
 {
     let offer = failure_offer(alloc, name, failure)?;
     make_offer(shelf, failure.line, offer)

@@ -1,8 +1,9 @@
 // SPDX-License-Identifier: MIT
-ghost use Rattle.std.specs.Prelude.{◌≡◌, ◌≤◌, map, IfOk, IfErr};
+ghost use Rattle.std.specs.Prelude.{◌≡◌, ◌≤◌, ◌∷◌, [], map, IfOk, IfErr};
 ghost use Rattle.rrc_shelf.specs.Intake.{AreAt};
-ghost use Rattle.rrc_shelf.specs.Readings.{placed_in, HoldsOffers, IsReading, ReadingRefused};
-ghost use Rattle.rrc_shelf.specs.Refusals.{AreLimits, IsDivision, MessageRefused, OutOfMemory};
+ghost use Rattle.rrc_shelf.specs.Readings.{placed_in, reading_checks, HoldsOffers, IsReading};
+ghost use Rattle.rrc_shelf.specs.Checks.{memory, OutOfMemory, Passes, Refuses};
+ghost use Rattle.rrc_shelf.specs.Refusals.{division_checks, message_check, AreLimits};
 ghost use Rattle.rrc_shelf.specs.Statuses.{number_of};
 ghost use Rattle.rrc_sets.specs.Offers.{offers_of};
 ghost use Rattle.rrc_wire.specs.Grammar.{MessageOf};
@@ -42,7 +43,7 @@ pub(crate) fn reading_of(
     summary: Summary,
     terms: &ResponseTerms,
 ) -> Result<Box<Reading>, Status>
-    requires division { IsDivision terms.now.parts }
+    requires division { Passes (division_checks terms.now.parts) }
     requires limits { AreLimits terms.now.limits }
     requires moments { AreAt terms.now.moment offers.items }
     ensures reading { IfOk result (λ reading. HoldsOffers terms.now offers.items reading.value) }
@@ -65,7 +66,7 @@ pub(crate) fn reading_of(
 /// The message that some octets are.
 fn message_in(alloc: Global, octets: &[u8]) -> Result<Message, Status>
     ensures message { IfOk result (λ message. MessageOf octets.now message) }
-    ensures refused { IfErr result (λ status. MessageRefused octets.now (number_of status)) }
+    ensures refused { IfErr result (λ status. Refuses (memory ∷ message_check octets.now ∷ []) (number_of status)) }
 {
     match read_message(alloc, octets) {
         Ok(message) => Ok(message),
@@ -101,7 +102,7 @@ pub fn read(
     terms: &ResponseTerms,
 ) -> Result<Box<Reading>, Status>
     ensures reading { IfOk result (λ reading. IsReading octets.now zone.now terms.now reading.value) }
-    ensures refused { IfErr result (λ status. ReadingRefused octets.now zone.now terms.now (number_of status)) }
+    ensures refused { IfErr result (λ status. Refuses (reading_checks octets.now zone.now terms.now) (number_of status)) }
 {
     check_division(&terms.parts)?;
     let limits = limits_of(&terms.limits)?;

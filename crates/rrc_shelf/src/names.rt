@@ -1,10 +1,11 @@
 // SPDX-License-Identifier: MIT
-ghost use Rattle.std.specs.Prelude.{◌≡◌, ◌≤◌, drop, length, take, IfErr, IfNone, IfOk, IfSome, OnOk};
+ghost use Rattle.std.specs.Prelude.{◌≡◌, ◌≤◌, ◌∷◌, [], drop, length, take, IfErr, IfNone, IfOk, IfSome, OnOk};
 ghost use Rattle.rrc_cache.specs.Seeds.{IsHashOf};
 ghost use Rattle.rrc_shelf.specs.Asks.{octets_of};
 ghost use Rattle.rrc_shelf.specs.Folding.{FoldingDue, IsFoldedName};
 ghost use Rattle.rrc_shelf.specs.Parts.{keyed_part_of};
-ghost use Rattle.rrc_shelf.specs.Refusals.{NameRefused, WireRefused};
+ghost use Rattle.rrc_shelf.specs.Checks.{memory, Refuses};
+ghost use Rattle.rrc_shelf.specs.Refusals.{wire_check};
 ghost use Rattle.rrc_shelf.specs.Statuses.{number_of, number_of_call};
 ghost use Rattle.rrc_name.specs.Key.{IsFolded};
 ghost use Rattle.rrc_name.specs.NameRef.{name_in};
@@ -22,7 +23,7 @@ use std::alloc::Global;
 pub(crate) fn name_of(alloc: Global, octets: &[u8]) -> Result<Name, Status>
     ensures name { IfOk result (λ name. name ≡ octets.now) }
     ensures wire_form { OnOk result (IsWireForm octets.now) }
-    ensures refused { IfErr result (λ status. NameRefused octets.now (number_of status)) }
+    ensures refused { IfErr result (λ status. Refuses (memory ∷ wire_check octets.now ∷ []) (number_of status)) }
 {
     match Name::from_wire(alloc, octets) {
         Ok(name) => Ok(name),
@@ -35,7 +36,7 @@ pub(crate) fn name_of(alloc: Global, octets: &[u8]) -> Result<Name, Status>
 fn lent_from(octets: &[u8]) -> Result<NameRef<'_>, Status>
     ensures name { IfOk result (λ name. name_in name ≡ octets.now) }
     ensures wire_form { OnOk result (IsWireForm octets.now) }
-    ensures refused { IfErr result (λ status. WireRefused octets.now (number_of status)) }
+    ensures refused { IfErr result (λ status. Refuses (wire_check octets.now ∷ []) (number_of status)) }
 {
     match NameRef::from_wire(octets) {
         Ok(name) => Ok(name),

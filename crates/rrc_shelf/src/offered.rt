@@ -1,8 +1,8 @@
 // SPDX-License-Identifier: MIT
-ghost use Rattle.std.specs.Prelude.{◌≡◌, ◌↔◌, drop, length, None, true, false, IfOk, IfSome, OnErr};
+ghost use Rattle.std.specs.Prelude.{◌≡◌, ◌↔◌, drop, length, None, true, false, IfOk, IfSome, IsSomeAnd, OnErr};
 ghost use Rattle.std.specs.Option.{option_map};
 ghost use Rattle.rrc_history.specs.Views.{reply_in};
-ghost use Rattle.rrc_shelf.specs.Offered.{denial_of, later, offer_in, reply_of_offer, type_of, IsOfferAnd, OfferDue, OneDue, TakesOffer, TellsOfferOr};
+ghost use Rattle.rrc_shelf.specs.Offered.{denial_of, later, offer_in, reply_of_offer, type_of, OfferDue, OneDue, TakesOffer, TellsOfferOr};
 ghost use Rattle.rrc_shelf.specs.Shelves.{IsLeftAs};
 ghost use Rattle.rrc_shelf.specs.Statuses.{number_of_call, number_of_reply, OnDone, OnRefused, OnSmall, OnUntold};
 
@@ -143,8 +143,8 @@ pub fn tell_offer_at(
     buffer: &mut [u8],
 ) -> u32
     ensures none { (result ≡ 18) ↔ (offer_in reading.now index ≡ None) }
-    ensures done { OnDone result (IsOfferAnd (offer_in reading.now index) (λ offer. TellsOfferOr true reading.now offer name.new told.new buffer.old buffer.new)) }
-    ensures small { OnSmall result (IsOfferAnd (offer_in reading.now index) (λ offer. TellsOfferOr false reading.now offer name.new told.new buffer.old buffer.new)) }
+    ensures done { OnDone result (IsSomeAnd (offer_in reading.now index) (λ offer. TellsOfferOr true reading.now offer name.new told.new buffer.old buffer.new)) }
+    ensures small { OnSmall result (IsSomeAnd (offer_in reading.now index) (λ offer. TellsOfferOr false reading.now offer name.new told.new buffer.old buffer.new)) }
     ensures name { OnUntold result (name.new ≡ name.old) }
     ensures behind { drop name.new.size name.new.octets ≡ drop name.new.size name.old.octets }
     ensures told { OnUntold result (told.new ≡ told.old) }
@@ -187,7 +187,7 @@ pub fn take_offer_at(
 ) -> u32
     ensures none { (result ≡ 18) ↔ (offer_in reading.now pick.now.index ≡ None) }
     ensures shelf { result ≡ 1 → ⊥ }
-    ensures done { OnDone result (IsOfferAnd (offer_in reading.now pick.now.index) (λ offer. TakesOffer pick.now.line reading.now offer seed.now outcome.new shelf.old shelf.new)) }
+    ensures done { OnDone result (IsSomeAnd (offer_in reading.now pick.now.index) (λ offer. TakesOffer pick.now.line reading.now offer seed.now outcome.new shelf.old shelf.new)) }
     ensures left { OnRefused result (IsLeftAs shelf.old shelf.new) }
     ensures outcome { OnRefused result (outcome.new ≡ outcome.old) }
     ensures due { IfSome (offer_in reading.now pick.now.index) (λ offer. OneDue reading.now offer seed.now shelf.old result) }

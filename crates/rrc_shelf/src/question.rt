@@ -1,8 +1,9 @@
 // SPDX-License-Identifier: MIT
-ghost use Rattle.std.specs.Prelude.{◌≡◌, ◌≤◌, true, false, IfErr, IfOk, OnOk};
+ghost use Rattle.std.specs.Prelude.{◌≡◌, ◌≤◌, ◌∷◌, [], true, IfErr, IfOk, OnOk};
 ghost use Rattle.rrc_cache.specs.Seeds.{IsHashOf};
 ghost use Rattle.rrc_shelf.specs.Asks.{asked, octets_of, mode_of, purpose_of, AreChoices};
-ghost use Rattle.rrc_shelf.specs.Refusals.{AreNoChoices, Because, FoldedRefused, IsQuestion, QuestionRefused, may_be_known};
+ghost use Rattle.rrc_shelf.specs.Checks.{unless, Passes, Refuses};
+ghost use Rattle.rrc_shelf.specs.Refusals.{folded_checks, may_be_known, question_checks};
 ghost use Rattle.rrc_shelf.specs.Statuses.{number_of};
 ghost use Rattle.rrc_history.specs.Views.{ask_in};
 ghost use Rattle.rrc_name.specs.Key.{IsFolded};
@@ -54,7 +55,7 @@ fn may_be_known(rtype: u16, class: u16) -> bool
 #[inline(always)]
 fn check_choices(purpose: u32, mode: u32) -> Result<(), Status>
     ensures fit { OnOk result (AreChoices purpose mode) }
-    ensures refused { IfErr result (λ status. Because Status.BadChoice (AreNoChoices purpose mode) (number_of status)) }
+    ensures refused { IfErr result (λ status. Refuses (unless Status.BadChoice (AreChoices purpose mode) ∷ []) (number_of status)) }
 {
     if !(1..=2).contains(&purpose) || !(1..=3).contains(&mode) {
         return Err(Status::BadChoice);
@@ -66,7 +67,7 @@ fn check_choices(purpose: u32, mode: u32) -> Result<(), Status>
 #[inline(always)]
 pub(crate) fn check_kind(rtype: u16, class: u16) -> Result<(), Status>
     ensures fit { OnOk result (may_be_known rtype class ≡ true) }
-    ensures refused { IfErr result (λ status. Because Status.BadType (may_be_known rtype class ≡ false) (number_of status)) }
+    ensures refused { IfErr result (λ status. Refuses (unless Status.BadType (may_be_known rtype class ≡ true) ∷ []) (number_of status)) }
 {
     if !may_be_known(rtype, class) {
         return Err(Status::BadType);
@@ -83,9 +84,8 @@ pub(crate) fn name_under<'a>(
     ensures name { IfOk result (λ lent. name_in lent.0 ≡ octets_of name.now) }
     ensures low { IfOk result (λ lent. IsFolded (name_in lent.0)) }
     ensures hash { IfOk result (λ lent. IsHashOf lent.1 (name_in lent.0)) }
-    ensures made { OnOk result (1 ≤ name.now.size) }
-    ensures seeded { OnOk result (name.now.seed ≡ seed.now) }
-    ensures refused { IfErr result (λ status. FoldedRefused name.now seed.now (number_of status)) }
+    ensures fit { OnOk result (Passes (folded_checks name.now seed.now)) }
+    ensures refused { IfErr result (λ status. Refuses (folded_checks name.now seed.now) (number_of status)) }
 {
     let Some(lent) = lent(name) else {
         return Err(Status::BadName);
@@ -106,8 +106,8 @@ pub(crate) fn question_of<'a>(
 ) -> Result<(AskRef<'a>, NameHash), Status>
     ensures question { IfOk result (λ both. ask_in both.0 ≡ asked name.now question.now) }
     ensures hash { IfOk result (λ both. IsHashOf both.1 (ask_in both.0).name) }
-    ensures fit { OnOk result (IsQuestion name.now question.now seed.now) }
-    ensures refused { IfErr result (λ status. QuestionRefused name.now question.now seed.now (number_of status)) }
+    ensures fit { OnOk result (Passes (question_checks name.now question.now seed.now)) }
+    ensures refused { IfErr result (λ status. Refuses (question_checks name.now question.now seed.now) (number_of status)) }
 {
     check_choices(question.purpose, question.mode)?;
     check_kind(question.rtype, question.rclass)?;

@@ -1,7 +1,7 @@
 // SPDX-License-Identifier: MIT
 ghost use Rattle.std.specs.Prelude.{◌≡◌, IfSome, IfNone};
 ghost use Rattle.std.specs.Option.{option_map};
-ghost use Rattle.rrc_shelf.specs.ReplyRecord.{owner_of, data_of, kind_of, left_of, record_of, retry_of, told_of, AreTellable};
+ghost use Rattle.rrc_shelf.specs.ReplyRecord.{fields_of, record_of, told_of, AreTellable};
 ghost use Rattle.rrc_history.specs.Views.{held_in, reply_in};
 
 use crate::entry_record::{EntryRecord, record_of};
@@ -35,7 +35,7 @@ pub struct ReplyRecord {
 
 /// The owner of a reply's data, which a miss has none of.
 pub(crate) fn owner_of<'a>(reply: ReplyRef<'a>) -> &'a [u8]
-    ensures { result.now ≡ owner_of (reply_in reply.entry) }
+    ensures { result.now ≡ (fields_of (reply_in reply.entry)).owner }
 {
     match reply {
         ReplyRef::Fresh { set, .. } | ReplyRef::Stale { set, .. } => set.owner.as_slice(),
@@ -46,7 +46,7 @@ pub(crate) fn owner_of<'a>(reply: ReplyRef<'a>) -> &'a [u8]
 
 /// The data of a reply.
 pub(crate) fn data_of<'a>(reply: ReplyRef<'a>) -> &'a [Octets]
-    ensures { result.now ≡ data_of (reply_in reply.entry) }
+    ensures { result.now ≡ (fields_of (reply_in reply.entry)).items }
 {
     match reply {
         ReplyRef::Fresh { set, .. } | ReplyRef::Stale { set, .. } => set.items.as_slice(),
@@ -59,7 +59,7 @@ pub(crate) fn data_of<'a>(reply: ReplyRef<'a>) -> &'a [Octets]
 
 #[inline(always)]
 fn kind_of(reply: ReplyRef<'_>) -> u32
-    ensures { result ≡ kind_of (reply_in reply.entry) }
+    ensures { result ≡ (fields_of (reply_in reply.entry)).kind }
 {
     match reply {
         ReplyRef::Fresh { .. } => 1,
@@ -75,7 +75,7 @@ fn kind_of(reply: ReplyRef<'_>) -> u32
 
 #[inline(always)]
 fn left_of(reply: ReplyRef<'_>) -> u32
-    ensures { result ≡ left_of (reply_in reply.entry) }
+    ensures { result ≡ (fields_of (reply_in reply.entry)).left }
 {
     match reply {
         ReplyRef::Fresh { left, .. }
@@ -88,7 +88,7 @@ fn left_of(reply: ReplyRef<'_>) -> u32
 
 #[inline(always)]
 fn retry_of(reply: ReplyRef<'_>) -> u64
-    ensures { result ≡ retry_of (reply_in reply.entry) }
+    ensures { result ≡ (fields_of (reply_in reply.entry)).retry_from }
 {
     match reply {
         ReplyRef::Miss {
@@ -103,8 +103,8 @@ fn retry_of(reply: ReplyRef<'_>) -> u64
 #[inline(always)]
 pub(crate) fn told_of(rtype: u16, lookup: Lookup<'_>) -> Option<ReplyRecord>
     ensures told { IfSome result (λ told. told ≡ told_of rtype (reply_in lookup.entry.reply) (record_of (option_map held_in lookup.entry.entry) lookup.entry.age)) }
-    ensures some { IfSome result (λ told. AreTellable (data_of (reply_in lookup.entry.reply))) }
-    ensures none { IfNone result (AreTellable (data_of (reply_in lookup.entry.reply)) → ⊥) }
+    ensures some { IfSome result (λ told. AreTellable (fields_of (reply_in lookup.entry.reply)).items) }
+    ensures none { IfNone result (AreTellable (fields_of (reply_in lookup.entry.reply)).items → ⊥) }
 {
     let reply = lookup.reply;
     let data_size = size_of_data(data_of(reply))? as u64;

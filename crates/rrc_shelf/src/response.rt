@@ -1,6 +1,7 @@
 // SPDX-License-Identifier: MIT
-ghost use Rattle.std.specs.Prelude.{◌≡◌, IfOk, IfErr, IfSome, IfNone, None, OnOk};
-ghost use Rattle.rrc_shelf.specs.Refusals.{AreLimits, IsDivision, NameRefused, OutOfMemory};
+ghost use Rattle.std.specs.Prelude.{◌≡◌, ◌∷◌, [], IfOk, IfErr, IfSome, IfNone, None, OnOk};
+ghost use Rattle.rrc_shelf.specs.Checks.{memory, OutOfMemory, Passes, Refuses};
+ghost use Rattle.rrc_shelf.specs.Refusals.{division_checks, wire_check, AreLimits};
 ghost use Rattle.rrc_shelf.specs.Responses.{query_of, AnswerRefused, IsOther, IsOtherAtLast, IsResponseReading, ReadsRelevant, ResponseRefused};
 ghost use Rattle.rrc_shelf.specs.Statuses.{number_of};
 ghost use Rattle.rrc_name.specs.Wire.{IsWireForm};
@@ -24,7 +25,7 @@ use std::alloc::Global;
 fn query_of(alloc: Global, name: &[u8], terms: &ResponseTerms) -> Result<Query, Status>
     ensures query { IfOk result (λ query. query ≡ query_of name.now terms.now) }
     ensures wire_form { OnOk result (IsWireForm name.now) }
-    ensures refused { IfErr result (λ status. NameRefused name.now (number_of status)) }
+    ensures refused { IfErr result (λ status. Refuses (memory ∷ wire_check name.now ∷ []) (number_of status)) }
 {
     let name = name_of(alloc, name)?;
     let question = Question {
@@ -67,7 +68,7 @@ fn reading_in(
     limits: &Limits,
 ) -> Result<Box<Reading>, Status>
     requires response { mismatch query.now message.now ≡ None }
-    requires division { IsDivision terms.now.parts }
+    requires division { Passes (division_checks terms.now.parts) }
     requires limits { AreLimits terms.now.limits }
     ensures reading { IfOk result (λ reading. ReadsRelevant terms.now message.now zone.now limits.now reading.value) }
     ensures memory { IfErr result (λ status. OutOfMemory (number_of status)) }

@@ -1,7 +1,7 @@
 // SPDX-License-Identifier: MIT
 ghost use Rattle.std.specs.Prelude.{◌≡◌, ◌≤◌, ◌<◌, IfOk, IfErr, OnOk};
-ghost use Rattle.rrc_shelf.specs.Readings.{bit_of, has_part, parts_below, share_of, ShareIsPart, RefusedShareIsPart, ShareRefused, TakesShare, TakesSomeOfShare};
-ghost use Rattle.rrc_shelf.specs.Refusals.{OutOfMemory};
+ghost use Rattle.rrc_shelf.specs.Readings.{bit_of, has_part, parts_below, share_checks, share_of, ShareIsPart, RefusedShareIsPart, TakesShare, TakesSomeOfShare};
+ghost use Rattle.rrc_shelf.specs.Checks.{OutOfMemory, Passes, Refuses};
 ghost use Rattle.rrc_shelf.specs.Statuses.{number_of};
 
 use crate::counts::Counts;
@@ -62,9 +62,8 @@ fn share_in(
     seed: &[u8; 16],
 ) -> Result<Vec<Offer>, Status>
     ensures share { IfOk result (λ offers. offers.items ≡ share_of part reading.now.placed.items) }
-    ensures below { OnOk result (part < reading.now.parts) }
-    ensures seeded { OnOk result (reading.now.seed ≡ seed.now) }
-    ensures refused { IfErr result (λ status. ShareRefused part reading.now seed.now (number_of status)) }
+    ensures fit { OnOk result (Passes (share_checks part reading.now seed.now)) }
+    ensures refused { IfErr result (λ status. Refuses (share_checks part reading.now seed.now) (number_of status)) }
 {
     if part >= reading.parts {
         return Err(Status::BadRules);
@@ -85,8 +84,7 @@ pub fn offer_share(
     counts: &mut Counts,
 ) -> Result<(), Status>
     ensures ok { OnOk result (TakesShare share.now counts.new reading.now shelf.old shelf.new) }
-    ensures below { OnOk result (share.now.part < reading.now.parts) }
-    ensures seeded { OnOk result (reading.now.seed ≡ seed.now) }
+    ensures fit { OnOk result (Passes (share_checks share.now.part reading.now seed.now)) }
     ensures err { IfErr result (λ status. TakesSomeOfShare (number_of status) share.now seed.now counts.new reading.now shelf.old shelf.new) }
 {
     *counts = NONE;

@@ -1,7 +1,7 @@
 // SPDX-License-Identifier: MIT
 ghost use Rattle.std.specs.Prelude.{◌≡◌, drop, IfErr, IfOk, OnErr, OnOk};
 ghost use Rattle.std.specs.Option.{option_map};
-ghost use Rattle.rrc_shelf.specs.Refusals.{OutOfMemory};
+ghost use Rattle.rrc_shelf.specs.Checks.{OutOfMemory};
 ghost use Rattle.rrc_shelf.specs.Statuses.{number_of, number_of_call};
 ghost use Rattle.rrc_shelf.specs.Summaries.{name_of_kind, number_of_kind, record_of_summary, summary_of, AreChosen, SummaryDue, TellsSummary};
 

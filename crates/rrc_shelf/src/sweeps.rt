@@ -1,10 +1,11 @@
 // SPDX-License-Identifier: MIT
 ghost use Rattle.std.specs.Prelude.{◌≡◌, ◌+◌, ◌≤◌, IfErr, IfNone, IfOk, IfSome, OnErr, OnOk};
 ghost use Rattle.rrc_cache.specs.Expiry.{NoneFullyExpiresBefore};
+ghost use Rattle.rrc_shelf.specs.Checks.{Passes, Refuses};
 ghost use Rattle.rrc_shelf.specs.Refusals.{WriteDue};
 ghost use Rattle.rrc_shelf.specs.Shelves.{IsLeftAs, MakesSweep};
 ghost use Rattle.rrc_shelf.specs.Statuses.{number_of, number_of_call};
-ghost use Rattle.rrc_shelf.specs.SweepSteps.{AreSteps, StepsRefused, SweepsAll, SweepsSome, SweepsUntil, SweepsUpTo};
+ghost use Rattle.rrc_shelf.specs.SweepSteps.{step_checks, SweepsAll, SweepsSome, SweepsUntil, SweepsUpTo};
 
 use crate::status::Status;
 use crate::terms::SweepTerms;
@@ -44,8 +45,8 @@ fn next_due(shelf: &CacheShelf, moment: u64) -> Option<u64>
 
 /// Whether a sweep in steps may be made.
 fn check_steps(sweep: &SweepTerms) -> Result<(), Status>
-    ensures fit { OnOk result (AreSteps sweep.now) }
-    ensures refused { IfErr result (λ status. StepsRefused sweep.now (number_of status)) }
+    ensures fit { OnOk result (Passes (step_checks sweep.now)) }
+    ensures refused { IfErr result (λ status. Refuses (step_checks sweep.now) (number_of status)) }
 {
     if sweep.most == 0 {
         return Err(Status::BadRules);
@@ -59,7 +60,7 @@ fn check_steps(sweep: &SweepTerms) -> Result<(), Status>
 /// Makes sweeps in steps, and counts what they remove.
 fn sweep_steps(shelf: &mut CacheShelf, terms: &SweepTerms, removed: &mut u64) -> Result<(), Status>
     requires none { removed.old ≡ 0 }
-    requires fit { AreSteps terms.now }
+    requires fit { Passes (step_checks terms.now) }
     ensures ok { OnOk result (SweepsAll terms.now removed.new shelf.old shelf.new) }
     ensures err { IfErr result (λ status. SweepsUpTo (number_of status) terms.now removed.new shelf.old shelf.new) }
 {

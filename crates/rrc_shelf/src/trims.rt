@@ -1,7 +1,8 @@
 // SPDX-License-Identifier: MIT
 ghost use Rattle.std.specs.Prelude.{IfErr, IfOk, OnOk};
 ghost use Rattle.rrc_shelf.specs.Statuses.{number_of};
-ghost use Rattle.rrc_shelf.specs.Trims.{IsTrim, TrimRefused, TrimsShelf, TrimsUntil};
+ghost use Rattle.rrc_shelf.specs.Checks.{Passes, Refuses};
+ghost use Rattle.rrc_shelf.specs.Trims.{trim_checks, TrimsShelf, TrimsUntil};
 
 use crate::status::Status;
 use crate::terms::TrimTerms;
@@ -20,8 +21,8 @@ pub struct Trimmed {
 
 /// Whether a trim may be made.
 fn check(trim: &TrimTerms) -> Result<(), Status>
-    ensures fit { OnOk result (IsTrim trim.now) }
-    ensures refused { IfErr result (λ status. TrimRefused trim.now (number_of status)) }
+    ensures fit { OnOk result (Passes (trim_checks trim.now)) }
+    ensures refused { IfErr result (λ status. Refuses (trim_checks trim.now) (number_of status)) }
 {
     if trim.limit == 0 || trim.most == 0 {
         return Err(Status::BadRules);

@@ -1,7 +1,8 @@
 // SPDX-License-Identifier: MIT
 ghost use Rattle.std.specs.Prelude.{◌≡◌, IfOk, IfErr, OnOk, OnErr};
 ghost use Rattle.rrc_shelf.specs.Upkeep.{DropsChapters, IsNextExpiry, TellsFault, TellsSizes};
-ghost use Rattle.rrc_shelf.specs.Refusals.{OutOfMemory, RecordDue};
+ghost use Rattle.rrc_shelf.specs.Checks.{OutOfMemory};
+ghost use Rattle.rrc_shelf.specs.Refusals.{RecordDue};
 ghost use Rattle.rrc_shelf.specs.Shelves.{DropsRecord, StartsRecord, recorded_chapters, recorded_events};
 ghost use Rattle.rrc_shelf.specs.Statuses.{number_of, number_of_call};
 

@@ -8,4 +8,4 @@ returns-clause-ok c = map_ok c.take_each.result _ _ (λ all. record { offers = _
 
 pub returns-clause-err : goal.returns-clause-err
 returns-clause-err c =
-    map_err c.take_each.result _ _ (λ status first. inr (record { offers = _; offered = c.in_ok-offered.ensures.offers; takes = first c.args.terms.now.moment c.in_ok-offered.ensures.moments })) c.take_each.ensures.err
+    map_err c.take_each.result _ _ (λ status first. inr (c.in_ok-offered.ensures.fit, record { offers = _; offered = c.in_ok-offered.ensures.offers; takes = first c.args.terms.now.moment c.in_ok-offered.ensures.moments })) c.take_each.ensures.err

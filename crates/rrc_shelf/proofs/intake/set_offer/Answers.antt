@@ -6,6 +6,7 @@ use Rattle.rrc_name.specs.declared.slot.Slot.TheVariants.{Set}
 use Rattle.rrc_wire.specs.Layout.{is_kept}
 use Rattle.rrc_shelf.specs.ReplyRecord.{data_text}
 use Rattle.rrc_shelf.specs.Refusals.{AreData, IsTrust}
+use Rattle.rrc_shelf.specs.Statuses.{number_of}
 use Rattle.rrc_shelf.proofs.SetFits.{on_ok, some_where_fit, life_where_fit, lacks_where_unfit}
 use Rattle.rrc_shelf.proofs.Taking.{map_err}
 use Rattle.rrc_shelf.proofs.intake.set_offer.Goals as goal
@@ -20,14 +21,25 @@ returns-clause-fit c =
     let type_kept : is_kept c.args.set.now.rtype c.args.set.now.rclass ≡ true = sym c.is_kept.ensures ∙ c.if-not-is_kept.false in
     let stand = ap data_text c.in_ok-new.ensures.ok ∙ c.in_ok-rdata_in.ensures.stand in
     on_ok c.offer_of.result _ _
-    (λ fit. record {
-      trusted = trusted;
-      type_kept = type_kept;
-      owner = c.in_ok-owner.ensures.wire_form;
-      data_are = record { items = _; stand = c.in_ok-rdata_in.ensures.stand; plain = c.in_ok-rdata_in.ensures.plain };
-      some = some_where_fit c.in_ok-key.key c.trust_of.result c.args.set.now.ttl c.owner.inside.wire c.in_ok-new.field-0 c.args.octets.now stand fit;
-      lifetime = life_where_fit c.in_ok-key.key c.trust_of.result c.args.set.now.ttl c.owner.inside.wire c.in_ok-new.field-0 c.args.octets.now stand fit;
-    })
+    (λ fit. (
+      trusted,
+      (
+        type_kept,
+        (
+          tt,
+          (
+            c.in_ok-owner.ensures.wire_form,
+            (
+              record { items = _; stand = c.in_ok-rdata_in.ensures.stand; plain = c.in_ok-rdata_in.ensures.plain },
+              (
+                some_where_fit c.in_ok-key.key c.trust_of.result c.args.set.now.ttl c.owner.inside.wire c.in_ok-new.field-0 c.args.octets.now stand fit,
+                (life_where_fit c.in_ok-key.key c.trust_of.result c.args.set.now.ttl c.owner.inside.wire c.in_ok-new.field-0 c.args.octets.now stand fit, tt),
+              ),
+            ),
+          ),
+        ),
+      ),
+    ))
     c.offer_of.ensures.fit
 
 pub returns-clause-refused : goal.returns-clause-refused
@@ -42,13 +54,13 @@ returns-clause-refused c =
       inr (
         type_kept,
         inr (
-          c.in_ok-owner.ensures.wire_form,
+          tt,
           inr (
-            are,
-            (
-              why.0,
-              lacks_where_unfit c.in_ok-key.key c.trust_of.result c.args.set.now.ttl c.owner.inside.wire c.in_ok-new.field-0 c.args.octets.now stand c.args.set.now.rtype c.args.set.now.rclass
-                  (c.in_ok-key.ensures ∙ ap (λ name. set_key name c.args.set.now.rtype c.args.set.now.rclass) (sym c.owner.view_is)) why.1,
+            c.in_ok-owner.ensures.wire_form,
+            inr (
+              are,
+              lacks_where_unfit c.in_ok-key.key c.trust_of.result c.args.set.now.ttl c.owner.inside.wire c.in_ok-new.field-0 c.args.octets.now stand c.args.set.now.rtype c.args.set.now.rclass (number_of status)
+                  (c.in_ok-key.ensures ∙ ap (λ name. set_key name c.args.set.now.rtype c.args.set.now.rclass) (sym c.owner.view_is)) why,
             ),
           ),
         ),

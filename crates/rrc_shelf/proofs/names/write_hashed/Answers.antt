@@ -2,7 +2,7 @@
 use Rattle.std.proofs.Common.{ℕ, ◌≤◌, List, length, sym, subst, arith}
 use Rattle.rrc_name.specs.Key.{IsFolded}
 use Rattle.rrc_name.specs.NameRef.{name_in}
-use Rattle.rrc_name.specs.Wire.{folded, IsWireForm}
+use Rattle.rrc_name.specs.Wire.{IsWireForm}
 use Rattle.rrc_name.specs.lemmas.Folding.{folded-folded}
 use Rattle.rrc_name.proofs.WireForms.{folded-IsWireForm}
 use Rattle.rrc_shelf.proofs.Telling.{some_octet}

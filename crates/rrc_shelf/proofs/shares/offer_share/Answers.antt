@@ -13,10 +13,9 @@ returns-clause-ok c =
 pub returns-clause-err : goal.returns-clause-err
 returns-clause-err c =
     map_err c.take_each.result _ _
-    (λ status first. inr (record {
-      below = c.in_ok-offers.ensures.below;
-      seeded = c.in_ok-offers.ensures.seeded;
-      takes = subst (λ offers. (at : ℕ) → AreAt at offers → TakesFirst (number_of status) c.args.share.now.line at offers c.take_each.new.counts c.args.shelf.now c.take_each.new.shelf) c.in_ok-offers.ensures.share first
-          c.args.reading.now.moment (share_at c.args.share.now.part c.args.reading.now);
-    }))
+    (λ status first. inr (
+      c.in_ok-offers.ensures.fit,
+      subst (λ offers. (at : ℕ) → AreAt at offers → TakesFirst (number_of status) c.args.share.now.line at offers c.take_each.new.counts c.args.shelf.now c.take_each.new.shelf) c.in_ok-offers.ensures.share first
+          c.args.reading.now.moment (share_at c.args.share.now.part c.args.reading.now),
+    ))
     c.take_each.ensures.err
