@@ -36,7 +36,8 @@ TellsNone (Some shelf) status = status ≡ 1 → ⊥
 abbrev pub OnNoShelf : ℕ → Type 0 → Type 0
 OnNoShelf status fact = status ≡ 1 → fact
 
--- when a shelf is made in a handle, and when that is refused with what: 2 is answered exactly where the handle holds a shelf
+-- when a shelf is made in a handle, and when that is refused with what: 2 is answered exactly where
+-- the handle holds a shelf
 abbrev pub MakingDue : ShelfRules → Option CacheShelfOf → ℕ → Type 0
 MakingDue rules (Some shelf) number = number ≡ 2
 MakingDue rules None number = Due (rules_checks rules) IsDoneOrMemory number

@@ -9,13 +9,14 @@ use Rattle.rrc_shelf.specs.Responses.{IsOtherAtLast, ResponseRefused}
 use Rattle.rrc_shelf.specs.declared.reading.Reading.{Reading}
 use Rattle.rrc_shelf.specs.declared.terms.ResponseTerms.{ResponseTerms}
 
--- when a message is read into a handle, and when that is refused with what: 19 is answered exactly where the handle holds offers
+-- when a message is read into a handle, and when that is refused with what: 19 is answered exactly
+-- where the handle holds offers
 abbrev pub ReadingDue : List ℕ → List ℕ → ResponseTerms → Option Reading → ℕ → Type 0
 ReadingDue octets zone terms (Some reading) number = number ≡ 19
 ReadingDue octets zone terms None number = (number ≡ 0) ⊎ Refuses (reading_checks octets zone terms) number
 
--- when a response is read into a handle, and when that is refused with what: 19 is answered exactly where the handle holds offers, and
--- 20 of octets that answer no query, or another one
+-- when a response is read into a handle, and when that is refused with what: 19 is answered exactly
+-- where the handle holds offers, and 20 of octets that answer no query, or another one
 abbrev pub ResponseDue : List ℕ → List ℕ → List ℕ → ResponseTerms → Option Reading → ℕ → Type 0
 ResponseDue octets zone name terms (Some reading) number = number ≡ 19
 ResponseDue octets zone name terms None number =

@@ -15,8 +15,8 @@ use Rattle.rrc_shelf.specs.Asks.{entry_for, reply_of}
 abbrev pub CNAME : ℕ
 CNAME = 5
 
--- whether a type stands beside an alias, so that this does not lead on: CNAME itself and ANY (RFC 1034 4.3.2), and RRSIG and NSEC, which
--- the name of an alias has itself (RFC 4035 2.5)
+-- whether a type stands beside an alias, so that this does not lead on: CNAME itself and ANY (RFC
+-- 1034 4.3.2), and RRSIG and NSEC, which the name of an alias has itself (RFC 4035 2.5)
 abbrev pub is_beside_alias : ℕ → Bool
 is_beside_alias rtype = rtype == CNAME || (rtype == 255 || (rtype == 46 || rtype == 47))
 
@@ -26,7 +26,8 @@ has_failed (Stale set left) = true
 has_failed (Miss (Some retry_from)) = true
 has_failed reply = false
 
--- whether a stale record will do: where that depends on a failure, on one of the type that was asked for
+-- whether a stale record will do: where that depends on a failure, on one of the type that was
+-- asked for
 abbrev pub alias_mode : Mode → Reply → Mode
 alias_mode NoStale reply = NoStale
 alias_mode Now reply = Now
@@ -47,8 +48,9 @@ is_same_entry None other = false
 is_same_entry (Some entry) None = false
 is_same_entry (Some entry) (Some other) = entry.number == other.number
 
--- of the record and what answers for the type, if anything does, the record governs, as of a set and an NXDOMAIN: the later one does,
--- unless the earlier is unexpired and of strictly higher rank (RFC 2181 5.4.1; RFC 8767 7 tells what goes wrong otherwise)
+-- of the record and what answers for the type, if anything does, the record governs, as of a set
+-- and an NXDOMAIN: the later one does, unless the earlier is unexpired and of strictly higher rank
+-- (RFC 2181 5.4.1; RFC 8767 7 tells what goes wrong otherwise)
 abbrev pub is_preferred : Option Entry → Option Entry → ℕ → Bool
 is_preferred alias other moment = is_same_entry alias (governing other alias moment)
 

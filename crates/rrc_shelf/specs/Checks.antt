@@ -1,25 +1,27 @@
 -- SPDX-License-Identifier: MIT
--- Why calls are refused: a call checks what it is handed, in an order, and the first check that fails refuses it.
+-- The checks of a call. A call makes its checks in a fixed order, and the first check that fails
+-- refuses the call.
 use Rattle.std.specs.Prelude.{◌≡◌, ℕ, ◌⊎◌, List, [], ◌∷◌}
 use Rattle.rrc_shelf.specs.Statuses.{number_of}
 use Rattle.rrc_shelf.specs.declared.status.Status.{Status}
 use Rattle.rrc_shelf.specs.declared.status.Status.TheVariants.{Memory}
 
--- a check: the number that a call answers where it fails, what is so then, and what is so where it passes
+-- a check: the number that the call returns if the check fails, the fact that holds then, and the
+-- fact that holds if the check passes
 pub record Check : Type 1 where
   pub number : ℕ
   pub fails : Type 0
   pub passes : Type 0
 
--- a call is refused with a status, unless a fact holds
+-- the call is refused with this status unless the fact holds
 abbrev pub unless : Status → Type 0 → Check
 unless status fact = record { number = number_of status; fails = fact → ⊥; passes = fact }
 
--- memory is asked for, which may be refused at will
+-- the call allocates memory, and any allocation may fail
 abbrev pub memory : Check
 memory = record { number = number_of Memory; fails = Unit {0}; passes = Unit {0} }
 
--- the first check that fails refuses the call, with its number
+-- the call is refused by the first check that fails, with the number of that check
 abbrev pub Refuses : List Check → ℕ → Type 0
 Refuses [] number = ⊥
 Refuses (check ∷ behind) number = ((number ≡ check.number) × check.fails) ⊎ (check.passes × Refuses behind number)
@@ -29,18 +31,18 @@ abbrev pub Passes : List Check → Type 0
 Passes [] = Unit {0}
 Passes (check ∷ behind) = check.passes × Passes behind
 
--- a call is refused by one of its checks, or all pass and it goes on
+-- the call is refused by a check, or all checks pass and the call goes on
 abbrev pub Due : List Check → (ℕ → Type 0) → ℕ → Type 0
 Due checks next number = Refuses checks number ⊎ (Passes checks × next number)
 
--- it is done
+-- the call succeeds
 abbrev pub IsDone : ℕ → Type 0
 IsDone number = number ≡ 0
 
--- it is refused for want of memory
+-- an allocation fails
 abbrev pub OutOfMemory : ℕ → Type 0
 OutOfMemory number = number ≡ number_of Memory
 
--- it is done, or refused for want of memory
+-- the call succeeds, or an allocation fails
 abbrev pub IsDoneOrMemory : ℕ → Type 0
 IsDoneOrMemory number = OutOfMemory number ⊎ IsDone number

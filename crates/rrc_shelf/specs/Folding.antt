@@ -9,7 +9,8 @@ use Rattle.rrc_shelf.specs.Refusals.{division_checks, wire_check}
 use Rattle.rrc_shelf.specs.declared.folded_name.FoldedName.{FoldedName}
 use Rattle.rrc_shelf.specs.declared.terms.Division.{Division}
 
--- the name is this one, folded and hashed under the seed of a division, with the part that it lies in
+-- the name is this one, folded and hashed under the seed of a division, with the part that it lies
+-- in
 pub record IsFoldedName (octets : List ℕ) (division : Division) (name : FoldedName) : Type 0 where
   pub made : 1 ≤ name.size
   pub octets_are : octets_of name ≡ folded octets

@@ -107,7 +107,8 @@ pub record TakesAll (line : ℕ) (offers : List OfferOf) (counts : Counts) (old 
 abbrev pub AreAt : ℕ → List OfferOf → Type 0
 AreAt at offers = All (λ offer. offer.moment ≡ at) offers
 
--- the first of the offers were written, and what became of them is counted; the next one, which there is, was refused by this number at their moment
+-- the first of the offers were written, and what became of them is counted; the next one, which
+-- there is, was refused by this number at their moment
 pub record TakesFirst (number line at : ℕ) (offers : List OfferOf) (counts : Counts) (old new : CacheShelfOf) : Type 0 where
   pub taken : List OfferOf
   pub next : OfferOf
@@ -146,7 +147,8 @@ pub record TakesNone (counts : Counts) (old new : CacheShelfOf) : Type 0 where
   pub counted : counts ≡ counts_of []
   pub kept : new ≡ old
 
--- what a refusal by this number leaves: a check failed and nothing was written, or all passed and the first of it was
+-- what a refusal by this number leaves: a check failed and nothing was written, or all passed and
+-- the first of it was
 abbrev pub TakesSome : List Check → (List OfferOf → List OfferOf) → ℕ → List ℕ → List ℕ → ResponseTerms → Counts → CacheShelfOf → CacheShelfOf → Type 0
 TakesSome checks share number octets zone terms counts old new =
     (TakesNone counts old new × Refuses checks number) ⊎ (Passes checks × TakesBeginning share number octets zone terms counts old new)

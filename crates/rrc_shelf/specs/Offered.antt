@@ -65,7 +65,8 @@ abbrev pub TellsOfferOr : Bool → Reading → OfferOf → FoldedName → ReplyR
 TellsOfferOr true reading offer name told before after = TellsNameAndRecord reading offer name told × IsFilled before (text_of (reply_of_offer offer)) after
 TellsOfferOr false reading offer name told before after = TellsNameAndRecord reading offer name told × (after ≡ before)
 
--- when an offer of a reading is told to a buffer of so many octets, and when that is refused with what
+-- when an offer of a reading is told to a buffer of so many octets, and when that is refused with
+-- what
 abbrev pub OfferDue : Reading → OfferOf → ℕ → ℕ → Type 0
 OfferDue reading offer room =
     Due (reply_check (reply_of_offer offer) ∷ division_checks (division_of reading) ++ (wire_check offer.key.name ∷ room_check (reply_of_offer offer) room ∷ [])) IsDone
@@ -76,7 +77,8 @@ offer_in reading index = option_map (λ (one : Placed). one.offer) (slice_get re
 
 -- ---- offering one
 
--- when an offer of a reading is offered alone to a shelf of this seed, and when that is refused with what
+-- when an offer of a reading is offered alone to a shelf of this seed, and when that is refused
+-- with what
 abbrev pub OneDue : Reading → OfferOf → List ℕ → CacheShelfOf → ℕ → Type 0
 OneDue reading offer seed shelf = Due (unless OtherSeed (reading.seed ≡ seed) ∷ memory ∷ []) (WriteDue shelf offer.moment)
 

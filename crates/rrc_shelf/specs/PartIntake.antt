@@ -1,5 +1,6 @@
 -- SPDX-License-Identifier: MIT
--- What C offers of a message to a shelf that is one of many: that of the names which lie in its part.
+-- What C offers of a message to a shelf that is one of many: that of the names which lie in its
+-- part.
 use Rattle.std.specs.Prelude.{◌≡◌, ℕ, ◌<◌, ◌≤◌, ◌==◌, List, [], ◌∷◌, ◌++◌, filter, true}
 use Rattle.rrc_history.specs.Fits.{OfferOf}
 use Rattle.rrc_shelf.specs.Checks.{unless, Check}
@@ -22,7 +23,7 @@ pub record IsPart (parts part : ℕ) : Type 0 where
 abbrev pub own_share : ResponseTerms → List OfferOf → List OfferOf
 own_share terms offers = lying_in terms.parts.count terms.parts.seed terms.part offers
 
--- what is checked before such a share is offered to a shelf of this seed
+-- the checks of a call that offers such a share to a shelf with this seed
 abbrev pub part_checks : List ℕ → List ℕ → ResponseTerms → List ℕ → List Check
 part_checks octets zone terms seed =
     unless BadRules (IsPart terms.parts.count terms.part)

@@ -44,7 +44,7 @@ pub record IsReading (octets zone : List ℕ) (terms : ResponseTerms) (reading :
   pub are_chosen : AreChosen terms relevance
   pub says : reading.summary ≡ summary_of relevance offered.brought.message zone
 
--- what is checked of a message that is read into offers for so many parts
+-- the checks of a message that is read into offers for so many parts
 abbrev pub reading_checks : List ℕ → List ℕ → ResponseTerms → List Check
 reading_checks octets zone terms = division_checks terms.parts ++ message_checks octets zone terms.limits
 
@@ -73,12 +73,14 @@ share_of part placed = map (λ (one : Placed). one.offer) (filter (λ (one : Pla
 abbrev pub TakesShare : Share → Counts → Reading → CacheShelfOf → CacheShelfOf → Type 0
 TakesShare share counts reading old new = TakesAll share.line (share_of share.part reading.placed.items) counts old new
 
--- what is checked before they are offered to a shelf of this seed: there is such a part, and it was read by that seed
+-- the checks of a call that offers them to a shelf with this seed: there is such a part, and the
+-- message was read under that seed
 abbrev pub share_checks : ℕ → Reading → List ℕ → List Check
 share_checks part reading seed = unless BadRules (part < reading.parts) ∷ unless OtherSeed (reading.seed ≡ seed) ∷ memory ∷ []
 
--- what a refusal by this number leaves of a shelf of this seed: a check failed and nothing was written, or all passed and the first of these offers
--- were, before one was refused at the moment of the reading
+-- what a refusal by this number leaves of a shelf of this seed: a check failed and nothing was
+-- written, or all passed and the first of these offers were, before one was refused at the moment
+-- of the reading
 abbrev pub TakesSomeOfShare : ℕ → Share → List ℕ → Counts → Reading → CacheShelfOf → CacheShelfOf → Type 0
 TakesSomeOfShare number share seed counts reading old new =
     (TakesNone counts old new × Refuses (share_checks share.part reading seed) number)

@@ -1,5 +1,5 @@
 -- SPDX-License-Identifier: MIT
--- What each call checks of what it is handed, and in which order.
+-- The checks of each call, in order, and when each call is refused.
 use Rattle.std.specs.Prelude.{◌≡◌, ℕ, ◌^◌, ◌<◌, ◌≤◌, List, [], ◌∷◌, length, true, false, not, ◌&&◌, Bool, if◌then◌else◌, ◌==◌}
 use Rattle.std.specs.List.{AllByRecursion, list_any}
 use Rattle.rrc_name.specs.Wire.{IsWireForm}
@@ -36,16 +36,16 @@ use Rattle.rrc_shelf.specs.declared.terms.ShelfRules.{ShelfRules}
 
 -- ---- octets that are handed in
 
--- octets are the wire form of a name, or have a first fault
+-- the octets are a name in wire form, or have a first fault
 abbrev pub wire_check : List ℕ → Check
 wire_check octets = record { number = number_of BadName; fails = (fault : WireNameFault) × IsFirstFaultOfWire octets fault; passes = IsWireForm octets }
 
--- octets are a message, or have a first fault
+-- the octets are a message, or have a first fault
 abbrev pub message_check : List ℕ → Check
 message_check octets =
     record { number = number_of BadMessage; fails = (fault : WireFault) × FirstFault octets fault; passes = (message : Message) × MessageOf octets message }
 
--- octets are plain data of a type, each behind its length
+-- the octets are plain rdata of a type, each after its length
 pub record AreData (rtype : ℕ) (octets : List ℕ) : Type 0 where
   pub items : List (List ℕ)
   pub stand : data_text items ≡ octets
@@ -57,32 +57,33 @@ pub record AreData (rtype : ℕ) (octets : List ℕ) : Type 0 where
 unfoldable pub is_seed : List ℕ → Bool
 is_seed seed = list_any (λ octet. not (octet == 0)) seed
 
--- what is checked of the rules of a shelf
+-- the checks of the rules of a shelf
 abbrev pub rules_checks : ShelfRules → List Check
 rules_checks rules = unless BadRules (MayBeRules rules.capacity rules.chapter rules.max_stale) ∷ unless BadSeed (is_seed rules.seed ≡ true) ∷ []
 
--- names are divided so: among 1 to 64 parts, by a seed
+-- the checks of a division of names: into 1 to 64 parts, under a seed
 abbrev pub division_checks : Division → List Check
 division_checks division = unless BadRules ((1 ≤ division.count) × (division.count ≤ 64)) ∷ unless BadSeed (is_seed division.seed ≡ true) ∷ []
 
 -- ---- events
 
--- what is checked of a moment at which an event is written: while nothing is recorded no chapter is ever full
+-- the checks of a call that writes an event at a moment. While nothing is recorded, no chapter is
+-- ever full
 abbrev pub write_checks : CacheShelfOf → ℕ → List Check
 write_checks shelf at =
     record { number = number_of HistoryFull; fails = IsSpentBy shelf.records shelf.shelf.part; passes = CanWriteBy shelf.records shelf.shelf.part }
     ∷ unless MomentTooLarge (at ≤ LAST_MOMENT) ∷ []
 
--- when an event is written at a moment, and when that is refused with what
+-- when an event is written at a moment, and when each refusal is returned
 abbrev pub WriteDue : CacheShelfOf → ℕ → ℕ → Type 0
 WriteDue shelf at = Due (write_checks shelf at) IsDoneOrMemory
 
--- the same of an event that takes no memory
+-- the same, for an event that needs no memory
 abbrev pub NoteDue : CacheShelfOf → ℕ → ℕ → Type 0
 NoteDue shelf at = Due (write_checks shelf at) IsDone
 
--- when a part is recorded, and when that is refused with what: HistoryFull exactly where it was not
--- and its chapter's number is 2^62
+-- when a recording starts, and when each refusal is returned: HistoryFull exactly if the part is
+-- not recorded yet and the number of its chapter is 2^62
 abbrev pub RecordDueBy : Bool → PartOf → ℕ → Type 0
 RecordDueBy true part = IsDone
 RecordDueBy false part = Due (record { number = number_of HistoryFull; fails = part.number ≡ 2 ^ 62; passes = part.number < 2 ^ 62 } ∷ []) IsDoneOrMemory
@@ -92,57 +93,59 @@ RecordDue shelf = RecordDueBy shelf.records shelf.shelf.part
 
 -- ---- asking
 
--- something may be known of such a question: its class is kept, and no type has the number 0 (RFC 6895 3.1). Of a type that is not kept it
--- may be known that the name does not exist
+-- the cache may hold something for such a question: its class is kept, and its type is not 0 (RFC
+-- 6895 3.1). Even if data of the type are not kept, the cache may hold an NXDOMAIN of the name
 unfoldable pub may_be_known : ℕ → ℕ → Bool
 may_be_known rtype class = is_kept_class class && not (rtype == 0)
 
--- a name was made, under the seed of the shelf
+-- the name was made, under the seed of the shelf
 abbrev pub folded_checks : FoldedName → List ℕ → List Check
 folded_checks name seed = unless BadName (1 ≤ name.size) ∷ unless OtherSeed (name.seed ≡ seed) ∷ []
 
--- what is checked of a question to a shelf whose names are hashed under a seed
+-- the checks of a question to a shelf whose names are hashed under a seed
 abbrev pub question_checks : FoldedName → Question → List ℕ → List Check
 question_checks name question seed =
     unless BadChoice (AreChoices question.purpose question.mode) ∷ unless BadType (may_be_known question.rtype question.rclass ≡ true) ∷ folded_checks name seed
 
--- a record can tell a reply
+-- a record can hold the sizes of the reply
 abbrev pub reply_check : Reply → Check
 reply_check reply = unless WideAnswer (AreTellable (fields_of reply).items)
 
--- a buffer of so many octets has room for a reply, or too little, which is told by 16
+-- a buffer of this size has room for the reply; if it has not, the call returns 16
 abbrev pub room_check : Reply → ℕ → Check
 room_check reply room = record { number = 16; fails = room < length (text_of reply); passes = length (text_of reply) ≤ room }
 
--- what is checked of a reply that is told to such a buffer
+-- the checks of a reply that is written to a buffer of this size
 abbrev pub telling_checks : Reply → ℕ → List Check
 telling_checks reply room = reply_check reply ∷ room_check reply room ∷ []
 
--- when a question is answered from a shelf that has this reply, and when that is refused with what. Memory is asked for only where the history is
--- recorded, which keeps the question
+-- when a shelf that has this reply answers a question, and when each refusal is returned. Memory is
+-- allocated only while the history is recorded, because the history then keeps the question
 abbrev pub AnswerDue : Bool → CacheShelfOf → Reply → ℕ → ℕ → ℕ → Type 0
 AnswerDue true shelf reply room at = Due (memory ∷ telling_checks reply room) (WriteDue shelf at)
 AnswerDue false shelf reply room at = Due (telling_checks reply room) (NoteDue shelf at)
 
--- when a question is answered by this ask of a shelf, and when that is refused with what
+-- when a question is answered by this ask, and when each refusal is returned
 abbrev pub AskDue : FoldedName → Question → List ℕ → AskOf → ℕ → CacheShelfOf → ℕ → Type 0
 AskDue name question seed ask room shelf = Due (question_checks name question seed) (AnswerDue shelf.records shelf (reply_of shelf ask) room question.moment)
 
--- when the reply to a question is told by this ask, and when that is refused with what: never for want of memory
+-- when a peek returns the reply to this ask, and when each refusal is returned. A peek allocates
+-- nothing
 abbrev pub PeekDue : FoldedName → Question → List ℕ → AskOf → ℕ → CacheShelfOf → ℕ → Type 0
 PeekDue name question seed ask room shelf = Due (question_checks name question seed) (Due (telling_checks (reply_of shelf ask) room) IsDone)
 
--- when it is told what the keys of a question hold, and when that is refused with what: never for want of memory
+-- when a call returns what the keys of a question hold, and when each refusal is returned. The call
+-- allocates nothing
 abbrev pub StoredDue : FoldedName → Question → List ℕ → ℕ → Type 0
 StoredDue name question seed = Due (unless BadType (may_be_known question.rtype question.rclass ≡ true) ∷ folded_checks name seed) IsDone
 
 -- ---- offering
 
--- the number is of a trust
+-- the number is that of a rank
 abbrev pub IsTrust : ℕ → Type 0
 IsTrust number = (1 ≤ number) × (number ≤ 4)
 
--- what is checked of a set that is offered
+-- the checks of an RRset that is offered
 abbrev pub set_checks : List ℕ → SetTerms → List ℕ → List Check
 set_checks owner set octets =
     unless BadChoice (IsTrust set.trust)
@@ -155,11 +158,12 @@ set_checks owner set octets =
 abbrev pub SOA : ℕ
 SOA = 6
 
--- whether what a denial is of is kept: data of a type in a class, or names of a class
+-- whether a denial is about something that is kept: data of a type in a class, or names of a class
 unfoldable pub denies_kept : NegativeTerms → Bool
 denies_kept negative = if negative.denial == 3 then is_kept negative.rtype negative.rclass else is_kept_class negative.rclass
 
--- what is checked of a negative answer that is offered. What it denies is that there are data of the type, by 3, or that the name exists, by 4
+-- the checks of a negative answer that is offered. It denies that there are data of the type, if
+-- its number is 3, or that the name exists, if its number is 4
 abbrev pub denial_checks : List ℕ → NegativeTerms → List ℕ → List ℕ → List Check
 denial_checks name negative soa_owner soa =
     unless BadChoice (IsTrust negative.trust × ((3 ≤ negative.denial) × (negative.denial ≤ 4)))
@@ -168,7 +172,7 @@ denial_checks name negative soa_owner soa =
     ∷ unless BadData (IsPlain SOA soa)
     ∷ unless WrongBody (is_lifetime negative.ttl ≡ true) ∷ []
 
--- what is checked of a failure that is offered
+-- the checks of a failure that is offered
 abbrev pub failure_checks : List ℕ → FailureTerms → List Check
 failure_checks name failure =
     unless BadType (is_kept failure.rtype failure.rclass ≡ true) ∷ memory ∷ wire_check name ∷ unless WrongBody (is_lifetime failure.ttl ≡ true) ∷ []
@@ -179,6 +183,6 @@ failure_checks name failure =
 abbrev pub AreLimits : Bounds → Type 0
 AreLimits bounds = MayBeLimits bounds.cap bounds.negative_cap bounds.recheck
 
--- what is checked of a message that was received from a zone
+-- the checks of a message that was received from a zone's servers
 abbrev pub message_checks : List ℕ → List ℕ → Bounds → List Check
 message_checks octets zone bounds = unless BadLimits (AreLimits bounds) ∷ memory ∷ wire_check zone ∷ message_check octets ∷ []

@@ -21,8 +21,9 @@ abbrev pub data_text : List (List ℕ) → List ℕ
 data_text [] = []
 data_text (octets ∷ behind) = datum octets ++ data_text behind
 
--- a reply as it is told: what it is, by its number; for how many seconds it holds; from when on asking that has failed may be tried again;
--- and the owner, in wire form, and the data, those of a set or the one of a SOA record
+-- a reply as it is told: what it is, by its number; for how many seconds it holds; from when on
+-- asking that has failed may be tried again; and the owner, in wire form, and the data, those of a
+-- set or the one of a SOA record
 pub record ReplyFields : Type 0 where
   pub kind : ℕ
   pub left : ℕ
@@ -84,7 +85,8 @@ abbrev pub AreNarrow : List (List ℕ) → Type 0
 AreNarrow [] = Unit {0}
 AreNarrow (octets ∷ behind) = (length octets ≤ 65535) × AreNarrow behind
 
--- data that a record and a buffer can tell: each is narrow, and the octets of all of them can be counted
+-- data that a record and a buffer can tell: each is narrow, and the octets of all of them can be
+-- counted
 pub record AreTellable (items : List (List ℕ)) : Type 0 where
   pub narrow : AreNarrow items
   pub countable : length (data_text items) < 2 ^ 64

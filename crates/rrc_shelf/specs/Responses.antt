@@ -68,7 +68,7 @@ AnswerRefused query octets number =
     OutOfMemory number
     ⊎ (((number ≡ number_of statuses.NoQuestion) × IsHeaderAlone query octets) ⊎ ((number ≡ number_of statuses.BadMessage) × CannotBeRead query octets))
 
--- what is checked before a response is compared with its query
+-- the checks that come before a response is compared with its query
 abbrev pub response_checks : List ℕ → List ℕ → ResponseTerms → List Check
 response_checks zone name terms =
     division_checks terms.parts ++ (unless statuses.BadLimits (AreLimits terms.limits) ∷ memory ∷ wire_check zone ∷ wire_check name ∷ [])

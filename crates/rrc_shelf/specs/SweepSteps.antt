@@ -28,19 +28,20 @@ abbrev pub removed_by : List StepOf → ℕ
 removed_by [] = 0
 removed_by (step ∷ earlier) = min (removed_by earlier + step.removed) (2 ^ 64 - 1)
 
--- so far there were such sweeps, none later than the moment of the call, and so many keys were removed
+-- so far there were such sweeps, none later than the moment of the call, and so many keys were
+-- removed
 pub record SweepsTo (sweep : SweepTerms) (removed : ℕ) (steps : List StepOf) (old new : CacheShelfOf) : Type 0 where
   pub sweeps : Sweeps sweep.line steps old new
   pub timely : AllByRecursion (λ (step : StepOf). step.moment ≤ sweep.moment) steps
   pub few : length steps ≤ sweep.most
   pub counted : removed ≡ removed_by steps
 
--- what is checked of a sweep in steps: it is of some keys, at a moment that is not too large
+-- the checks of a sweep in steps: its limit is at least 1, and its moment is not too large
 abbrev pub step_checks : SweepTerms → List Check
 step_checks sweep = unless BadRules (1 ≤ sweep.most) ∷ unless MomentTooLarge (sweep.moment ≤ LAST_MOMENT) ∷ []
 
--- there were such sweeps, until no key is left that is fully expired at the moment, or as many keys were removed as were to be, or as
--- many sweeps made
+-- there were such sweeps, until no key is left that is fully expired at the moment, or as many keys
+-- were removed as were to be, or as many sweeps made
 pub record SweepsAll (sweep : SweepTerms) (removed : ℕ) (old new : CacheShelfOf) : Type 0 where
   pub steps : List StepOf
   pub goes : SweepsTo sweep removed steps old new

@@ -13,7 +13,7 @@ use Rattle.rrc_shelf.specs.declared.status.Status.TheVariants.{BadRules, History
 use Rattle.rrc_shelf.specs.declared.terms.TrimTerms.{TrimTerms}
 use Rattle.rrc_shelf.specs.declared.trims.Trimmed.{Trimmed}
 
--- what is checked of a trim: it is to some octets and of some keys, at a moment that is not too large
+-- the checks of a trim: its limits are at least 1, and its moment is not too large
 abbrev pub trim_checks : TrimTerms → List Check
 trim_checks trim = unless BadRules ((1 ≤ trim.limit) × (1 ≤ trim.most)) ∷ unless MomentTooLarge (trim.moment ≤ LAST_MOMENT) ∷ []
 
@@ -22,15 +22,16 @@ pub record GoesOn (trim : TrimTerms) (old new : CacheShelfOf) : Type 0 where
   pub records : new.records ≡ old.records
   pub evicts : Evicts (record { line = trim.line; place = 0 }) trim.moment old.shelf new.shelf
 
--- the keys touched least recently went, as many as had to, and it is told how many, and the octets that are left
+-- the keys touched least recently went, as many as had to, and it is told how many, and the octets
+-- that are left
 pub record TrimsShelf (trim : TrimTerms) (trimmed : Trimmed) (old new : CacheShelfOf) : Type 0 where
   pub fit : Passes (trim_checks trim)
   pub goes : GoesOn trim old new
   pub trims : Trims trim.limit trim.most old.shelf new.shelf trimmed.removed
   pub octets : HoldsOctets new.shelf.part trimmed.octets
 
--- why a trim stops, while nothing is recorded: the numbers of events are spent, or memory, which it asks
--- for only if no sweep came after the last offer
+-- why a trim stops, while nothing is recorded: the numbers of events are spent, or memory, which it
+-- asks for only if no sweep came after the last offer
 abbrev pub IsLeanStop : PartOf → PartOf → ℕ → Type 0
 IsLeanStop old new number = ((number ≡ number_of HistoryFull) × (2 ^ 62 ≤ next_number new + 1)) ⊎ (OutOfMemory number × IsAfterLastSweep old 0)
 
