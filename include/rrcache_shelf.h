@@ -581,9 +581,9 @@ struct rrcache_entry {
     uint64_t age;    /* not a time, but the number of uses of keys since the last use of this key.
                         The number of other keys used since then is at most `age`. A key is used
                         when an entry is stored under it, and when its entry answers an ask. In a
-                        reply, `age` has its value from before the ask or peek. An ask then moves
-                        the entry to the front of the LRU order, but a peek does not. If the entry
-                        is already at the front (`age` 0), an ask does not count as a use */
+                        reply, `age` is the value that it had before the ask or peek. An ask then
+                        moves the entry to the front of the LRU order, but a peek does not. If the
+                        entry is already at the front (`age` 0), an ask does not count as a use */
 };
 
 /* A reply. The first `owner_size` octets of the buffer are the owner of the RRset or, in a negative
@@ -1640,7 +1640,7 @@ static inline enum rrcache_status rrcache_tell_offer(struct rrcache_offers *offe
                                                buffer_size == 0 ? &none : buffer, buffer_size);
 }
 
-/* Returns how many octets of memory a name or rdata of `size` octets use, whether they are stored
+/* Returns how many octets of memory a name or rdata of `size` octets uses, whether it is stored
    inline or in a separate block. */
 static inline uint64_t rrcache_room(uint64_t size)
 {
