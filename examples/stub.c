@@ -14,8 +14,9 @@ static struct rrcache *cache;
 /* Sends a query upstream, and stores the response. Returns the size of the response, or 0 if there
    is no response that can be read. But a truncated response may end inside a record, and is no
    failure: its header and question are returned. Gives up after eight packets that answer other
-   queries, which are an attack. */
-static size_t ask(struct rrcache_query query, uint8_t *it, struct rrcache_answer *answer)
+   queries, which are an attack. `is_sent` becomes false if this host cannot send the query. */
+static size_t ask(struct rrcache_query query, uint8_t *it, struct rrcache_answer *answer,
+                  bool *is_sent)
 {
     static const uint8_t root[1]; /* the zone: upstream answers for all names */
     struct pollfd peer = {.fd = socket(AF_INET, SOCK_DGRAM, 0), .events = POLLIN};
@@ -24,11 +25,12 @@ static size_t ask(struct rrcache_query query, uint8_t *it, struct rrcache_answer
     enum rrcache_status status = RRCACHE_OTHER_QUERY;
     memcpy(it + 2, "\1\0\0\1\0\0\0\0\0", 10);         /* RD set, and one question */
     memcpy(it + 12, query.name, query.name_size + 4); /* with its type and class */
-    if (getentropy(it, 2) == 0 && connect(peer.fd, (void *)&upstream, sizeof upstream) == 0)
-        send(peer.fd, it, 12 + query.name_size + 4, 0);
+    *is_sent = getentropy(it, 2) == 0 && connect(peer.fd, (void *)&upstream, sizeof upstream) == 0
+               && send(peer.fd, it, 12 + query.name_size + 4, 0) >= 0;
     query.id = it[0] << 8 | it[1];
     response.lowest_ttl = true;
-    for (int i = 0; i < 8 && status == RRCACHE_OTHER_QUERY && poll(&peer, 1, 1800) == 1; i++) {
+    int left = *is_sent ? 8 : 0;
+    while (left-- > 0 && status == RRCACHE_OTHER_QUERY && poll(&peer, 1, 1800) == 1) {
         ssize_t size = recv(peer.fd, it, OCTETS, 0);
         response.size = size > 0 ? size : 0;
         status = rrcache_store(cache, &query, &response, &report, answer);
@@ -73,6 +75,7 @@ static size_t respond(const struct rrcache_query *query, uint8_t *reply)
     struct rrcache_failure failure = {.name = query->name, .name_size = query->name_size};
     size_t came = 0;
     uint32_t outcome;
+    bool is_sent = true;
     request.rtype = failure.rtype = query->rtype;
     request.rclass = failure.rclass = query->rclass;
     request.mode = RRCACHE_STALE_IF_FAILED;
@@ -80,10 +83,12 @@ static size_t respond(const struct rrcache_query *query, uint8_t *reply)
     if (rrcache_lookup(cache, &request, &answer) != RRCACHE_DONE)
         return 0;
     if (answer.kind == RRCACHE_MISS && !answer.is_endless)
-        came = ask(*query, reply, &answer);
+        came = ask(*query, reply, &answer, &is_sent);
     if (answer.kind == RRCACHE_MISS && came != 0)
         return came; /* nothing was stored, as with TC set: pass the response on */
-    if (answer.kind == RRCACHE_MISS)
+    if (!is_sent)
+        request.mode = RRCACHE_STALE_NOW; /* no server has failed, so no failure is stored */
+    else if (answer.kind == RRCACHE_MISS)
         rrcache_store_failure(cache, &failure, &outcome);
     if (answer.kind == RRCACHE_MISS || answer.kind == RRCACHE_FAILED)
         rrcache_lookup(cache, &request, &answer); /* stale data are acceptable now */
