@@ -2327,7 +2327,8 @@ static inline enum rrcache_status rrcache_free_chapters(struct rrcache_chapters 
    include the memory of events and chapters, which keep data even after the data have been
    replaced, evicted or swept. Nor does it include the names and expiry times of evicted and cleared
    keys: a shelf that has been swept keeps them until these keys would have fully expired. If the
-   shelf held n keys when data were last stored, it keeps at most 2n + 64 such names and times. */
+   shelf held n keys when data were last stored, it keeps at most 3n + 64 expiry times, including
+   those of the keys that it still holds. */
 static inline enum rrcache_status rrcache_sizes(const struct rrcache_shelf *shelf,
                                                 struct rrcache_usage *sizes)
 {
