@@ -559,9 +559,10 @@ RRCACHE_API enum rrcache_status rrcache_stop_recording_all(struct rrcache *cache
    chapter (segment) of an archive begins (docs/FORMATS.md). The text of a shelf shows its contents
    at one point in time, because other calls on the shelf wait while `rrcache_dump` lists the keys
    of the shelf. The call allocates memory for the keys of one shelf at a time. No call reads this
-   text back into a cache. However, a caller can store each entry in a new cache, in the order of
-   the event numbers, with the rank, TTL and timestamp from the entry's line. After a restart of the
-   machine, CLOCK_BOOTTIME begins at zero again, so the caller must first convert the timestamps
+   text back into a cache. However, a caller can store each entry in a new cache, with the rank, TTL
+   and timestamp from the entry's line: shelf by shelf, and the entries of a shelf in the order of
+   their event numbers, because each shelf numbers its own events. After a restart of the machine,
+   CLOCK_BOOTTIME begins at zero again, so the caller must first convert the timestamps
    (docs/RULES.md, "Listing and saving keys"). docs/CAPTURES.md, "A wrong answer", says what a dump
    shows about an answer. Returns RRCACHE_HAS_CHAPTERS while histories are being recorded, and
    RRCACHE_SINK if the sink returns nonzero. May also return RRCACHE_HISTORY_FULL or
