@@ -110,7 +110,8 @@
    - A timestamp (`moment`) is a number of seconds, at most 2^40. The timestamp 0 means the current
      time of CLOCK_BOOTTIME, a clock that cannot be set and that keeps running while the machine is
      suspended. If this clock cannot be read, for example in a sandbox, 0 means the time of
-     CLOCK_MONOTONIC.
+     CLOCK_MONOTONIC. That clock stops while the machine is suspended, so data then expire too late,
+     by the time of the suspension.
    - A program must either pass 0 in every call, or pass timestamps from its own clock in every
      call. If a program passes 0 in some calls and timestamps from its own clock in others, data
      expire too late or too early. The program's own clock must never be set back. If this clock is
