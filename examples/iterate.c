@@ -1,33 +1,37 @@
 /* SPDX-License-Identifier: MIT */
 /* iterate PORT ROOT-SERVER .. NAME ..: prints IPv4 addresses of names. It follows delegations from
    the root servers, as a recursive resolver does (RFC 1034 section 5.3.3). It asks all servers at
-   PORT, over UDP without EDNS. If a response is truncated, it asks the next server, where a
-   resolver would ask the same server over TCP. */
+   PORT, over UDP without EDNS. If a response is truncated, it asks the same server over TCP. */
 #include <arpa/inet.h>
+#include <errno.h>
 #include <poll.h>
 #include <resolv.h>
 #include <rrcache.h>
 #include <stdio.h>
 #include <stdlib.h>
 #include <string.h>
+#include <time.h>
 #include <unistd.h>
 
-/* A question takes at most STEPS steps, each of which sends a query or gives up a name. So loops of
+/* A question takes at most STEPS steps, each of which asks a server or gives up a name. So loops of
    referrals end, and a referral to many servers without addresses causes few queries (NXNSAttack).
-   DEPTH limits how many names of servers wait for each other's addresses. */
-enum { STEPS = 32, DEPTH = 4, ROOM = RRCACHE_ANSWER_OCTETS };
+   DEPTH limits how many names of servers wait for each other's addresses. A message has at most
+   PLAIN octets over UDP, and LENGTH octets before it over TCP. */
+enum { STEPS = 32, DEPTH = 4, ROOM = RRCACHE_ANSWER_OCTETS, TRY_MS = 800, PLAIN = 512, LENGTH = 2 };
 static struct step {
     struct rrcache_name name; /* the name whose addresses are asked for */
     size_t zone_size;         /* the zone of the server is so many octets at the end of the name */
     uint8_t server[4];
 } steps[STEPS + 1]; /* the steps of one question */
-static uint8_t rooms[3][ROOM], packet[512], roots[13 * 6];
+static uint8_t rooms[3][ROOM], roots[13 * 6];
+static uint8_t framed[LENGTH + RRCACHE_MESSAGE_OCTETS], *const packet = framed + LENGTH;
 static struct rrcache_answer answer = {.buffer = rooms[0], .room = ROOM};
 static struct rrcache_answer zone = {.buffer = rooms[1], .room = ROOM};
 static struct rrcache_answer host = {.buffer = rooms[2], .room = ROOM};
 static struct rrcache_query query = {.rtype = 1, .rclass = 1};
-static struct rrcache_response response = {.octets = packet, .limits = RRCACHE_LIMITS};
+static struct rrcache_response response = {.octets = framed + LENGTH, .limits = RRCACHE_LIMITS};
 static struct sockaddr_in server = {.sin_family = AF_INET};
+static struct timespec began; /* when the server was asked */
 static struct rrcache *cache;
 static size_t roots_size;
 
@@ -136,12 +140,41 @@ static uint32_t take_packet(void)
     return kind;
 }
 
-/* Sends the query of a step, and receives the response. Returns its kind, or 0 if there is none.
-   Gives up after eight packets that answer other queries. */
-static uint32_t ask(const struct step *step)
+/* Waits until a socket can be read or written. Returns false if TRY_MS milliseconds have passed
+   since the server was asked: a server that sends an octet now and then gets no more time. */
+static bool wait_for(struct pollfd *peer, short events)
+{
+    struct timespec now;
+    clock_gettime(CLOCK_BOOTTIME, &now);
+    int64_t passed = (now.tv_sec - began.tv_sec) * 1000 + (now.tv_nsec - began.tv_nsec) / 1000000;
+    peer->events = events;
+    return passed < TRY_MS && poll(peer, 1, (int)(TRY_MS - passed)) == 1;
+}
+
+/* Receives a message over TCP. Its length precedes it, and all may arrive in pieces of any size.
+   Returns the size of the message, or 0 if it does not arrive in time or the server closes. */
+static ssize_t receive(struct pollfd *peer)
+{
+    ssize_t got = 0, whole = LENGTH;
+    while (got < whole && wait_for(peer, POLLIN)) {
+        ssize_t more = recv(peer->fd, framed + got, whole - got, 0);
+        if (more <= 0)
+            return 0;
+        got += more;
+        if (got == LENGTH)
+            whole += framed[0] << 8 | framed[1];
+    }
+    return got == whole ? whole - LENGTH : 0;
+}
+
+/* Sends the query of a step over UDP or TCP, and receives the response. Returns its kind, or 0 if
+   there is none. Gives up after eight messages that answer other queries. */
+static uint32_t ask(const struct step *step, bool is_tcp)
 {
     const struct rrcache_parsed_response none = {0};
-    struct pollfd peer = {.fd = socket(AF_INET, SOCK_DGRAM, 0), .events = POLLIN};
+    int type = is_tcp ? SOCK_STREAM : SOCK_DGRAM;
+    struct pollfd peer = {.fd = socket(AF_INET, type | SOCK_NONBLOCK, 0)};
+    size_t skipped = is_tcp ? 0 : LENGTH;
     uint32_t kind = 0;
     query.name = step->name.octets;
     query.name_size = step->name.size;
@@ -149,14 +182,18 @@ static uint32_t ask(const struct step *step)
     response.zone_size = step->zone_size;
     response.lowest_ttl = true; /* AA is clear in referrals */
     memcpy(&server.sin_addr, step->server, 4);
+    clock_gettime(CLOCK_BOOTTIME, &began);
     if (getentropy(&query.id, sizeof query.id) == 0
-        && connect(peer.fd, (void *)&server, sizeof server) == 0
-        && rrcache_compose_response(&query, &none, packet, sizeof packet, &response.size) == 0) {
+        && (connect(peer.fd, (void *)&server, sizeof server) == 0 || errno == EINPROGRESS)
+        && rrcache_compose_response(&query, &none, packet, PLAIN, &response.size) == 0
+        && wait_for(&peer, POLLOUT)) {
         packet[2] = 0; /* QR is clear, so this is the query. RD is clear too */
-        send(peer.fd, packet, response.size, 0);
+        framed[0] = response.size >> 8;
+        framed[1] = response.size & 255;
+        send(peer.fd, framed + skipped, LENGTH - skipped + response.size, MSG_NOSIGNAL);
     }
-    for (int i = 0; i < 8 && kind == 0 && poll(&peer, 1, 800) == 1; i++) {
-        ssize_t size = recv(peer.fd, packet, sizeof packet, 0);
+    for (int i = 0; i < 8 && kind == 0 && wait_for(&peer, POLLIN); i++) {
+        ssize_t size = is_tcp ? receive(&peer) : recv(peer.fd, packet, PLAIN, 0);
         response.size = size > 0 ? size : 0;
         kind = take_packet();
     }
@@ -165,14 +202,19 @@ static uint32_t ask(const struct step *step)
 }
 
 /* Resolves a name, and prints its addresses. Returns whether there is an answer. Each step begins
-   with the question, since the cache has what the earlier steps found. */
+   with the question, since the cache has what the earlier steps found. If a response has TC set,
+   it may lack records, so the calls store nothing from it. If it ends inside a record, they return
+   RRCACHE_BAD_MESSAGE, but the server has not failed. In both cases, the same server is asked over
+   TCP, and only that response counts (RFC 2181 section 9, RFC 7766 section 5). */
 static bool resolve(struct rrcache_name name)
 {
     for (int i = 0; i <= STEPS && look_up(name.octets, name.size, &answer) == RRCACHE_MISS; i++) {
         struct step *step = &steps[i];
         step->name = name = answer.end;
         bool is_asked = i < STEPS && find(step);
-        uint32_t kind = is_asked ? ask(step) : 0;
+        uint32_t kind = is_asked ? ask(step, false) : 0;
+        if (kind != 0 && (packet[2] & 2) != 0) /* TC is set */
+            kind = ask(step, true);
         bool is_own = step->name.hash == name.hash; /* and not the name of a server */
         struct rrcache_failure failure = {.name = step->name.octets, .rtype = 1, .rclass = 1};
         uint32_t outcome;
