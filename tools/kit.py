@@ -31,7 +31,7 @@ def load():
     return module
 
 
-def made_by_ci(crate):
+def is_left_by_ci(crate):
     """Whether a crate has a library as `rt ci` leaves it, with no stamp, that came to its place
     behind all of its sources."""
     made, folder = Path(crate.rlib), Path(crate.folder)
@@ -42,6 +42,12 @@ def made_by_ci(crate):
     # `rt ci` knows that it is the same.
     moment = made.stat().st_mtime
     return all(it.stat().st_mtime <= moment for it in [TOP / "crates.txt", *sources])
+
+
+def made_by_ci(crate):
+    """Whether a crate and all crates below it have such libraries. If a crate below has changed
+    since, or was built again, the library was made over another one than the one that is there."""
+    return all(map(is_left_by_ci, [*crate.below(), crate]))
 
 
 def stamp_of(rt, crate, stamp):
