@@ -1989,9 +1989,9 @@ static inline enum rrcache_status rrcache_peek(const struct rrcache_shelf *shelf
    not a failure of the names to which the CNAME record leads. So to learn whether stale answers are
    acceptable for these names, peek for the question with RRCACHE_NO_STALE. If the reply has the
    kind RRCACHE_FAILED, ask for each name of the chain with RRCACHE_STALE_NOW. If the shelf holds
-   unexpired data of the question's type, and these data are older than the failure, the peek returns
-   them instead. In this case, call `rrcache_tell_stored`: it also returns the failure, and the
-   `number` fields of the entries show whether the failure was stored after the data. */
+   unexpired data of the question's type, and these data are older than the failure, the peek
+   returns them instead. In this case, call `rrcache_tell_stored`: it also returns the failure, and
+   the `number` fields of the entries show whether the failure was stored after the data. */
 static inline enum rrcache_status rrcache_ask_alias(struct rrcache_shelf *shelf,
                                                     const struct rrcache_name *name,
                                                     const struct rrcache_question *question,
