@@ -118,8 +118,9 @@
      set forward, all data suddenly become older: see "Timestamps" in rrcache_shelf.h. In two cases,
      a program may pass other timestamps. First, a program that passes 0 may also pass seconds of
      CLOCK_BOOTTIME, for example when it restores a dump, because 0 means the current time of the
-     same clock. Second, any program may call `rrcache_sweep_all` at the timestamp 2^40 to empty the
-     cache. `retry_from` of an answer is a timestamp of the clock that the program uses.
+     same clock, if this clock can be read. Second, any program may call `rrcache_sweep_all` at the
+     timestamp 2^40 to empty the cache. `retry_from` of an answer is a timestamp of the clock that
+     the program uses.
 
    Errors
    - The header rrcache_shelf.h describes the wire form of names, the ownership of memory, and each
