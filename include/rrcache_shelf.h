@@ -55,22 +55,22 @@
      error. No call takes more than one shelf, so no call needs the locks of two shelves.
    - The following calls on offers take no shelf, so they do not need the lock of a shelf:
      `rrcache_read_response`, `rrcache_read_message_unchecked`, `rrcache_tell_response`,
-     `rrcache_tell_offer` and `rrcache_free_offers`. No two calls may use the same handle for offers
-     at the same time. This restriction also applies to `rrcache_offer_read` and
-     `rrcache_offer_one`, because these calls write to the handle for the offers as well as to the
+     `rrcache_tell_offer` and `rrcache_free_offers`. No two calls may use the same `struct
+     rrcache_offers` at the same time. This restriction also applies to `rrcache_offer_read` and
+     `rrcache_offer_one`, because these calls write to the `struct rrcache_offers` as well as to the
      handle of the shelf.
    - `rrcache_take_chapters` and `rrcache_stop_recording` need the write lock of the shelf. The
      following calls on taken chapters need neither the shelf nor a lock: `rrcache_chapter_line`,
      `rrcache_write_line`, `rrcache_write_chapter` and `rrcache_free_chapters`. While these calls
-     run, other threads may use or free the shelf. No two calls may use the same handle for chapters
-     at the same time.
+     run, other threads may use or free the shelf. No two calls may use the same `struct
+     rrcache_chapters` at the same time.
    - `rrcache_fault`, `rrcache_make_name`, `rrcache_compose_response` and `rrcache_tell_octets` take
      no handle and need no lock.
    - No call waits, sleeps or takes a lock, unless malloc, realloc, free or the caller's sink does
-     so. A sink is a callback (`rrcache_sink`). Only `rrcache_write_line` and
-     `rrcache_write_chapter` call one: the sink that the caller passes. Do not call a function of
-     the library in a signal handler. If a process with several threads calls fork, do not call a
-     function of the library in the child process.
+     so. A sink is a callback that the caller passes (`rrcache_sink`). Only `rrcache_write_line` and
+     `rrcache_write_chapter` call a sink. Do not call any function of the library from a signal
+     handler. If a process with several threads calls fork, do not call any function of the library
+     in the child process.
 
    Memory
    - The library allocates memory only with malloc and realloc, and frees it only with free. If an
@@ -79,8 +79,8 @@
    - The following calls never allocate and never return RRCACHE_MEMORY, even for long names:
      `rrcache_peek`, `rrcache_peek_alias`, `rrcache_tell_stored`, `rrcache_sizes`,
      `rrcache_next_expiry`, `rrcache_make_name`, `rrcache_tell_response`, `rrcache_tell_offer`,
-     `rrcache_tell_octets` and `rrcache_compose_response`. While a shelf does not record its
-     history, the same is true of `rrcache_ask` and `rrcache_ask_alias`.
+     `rrcache_tell_octets` and `rrcache_compose_response`. While a shelf is not recording its
+     history, this is also true of `rrcache_ask` and `rrcache_ask_alias`.
    - The library copies each reply into the caller's buffer.
 
    Errors
@@ -88,16 +88,16 @@
      such as `rrcache_room`. RRCACHE_DONE is 0, and every other status is an error. No error
      terminates the process.
    - For the functions of this header, 0 is not a valid purpose, mode, class, trust, kind, section,
-     seed or limit. So if the caller leaves such a field 0, for example in a designated initializer,
-     a call that uses the field returns an error. For the functions of rrcache.h, a seed or a limit
-     of 0 means the default.
+     seed or limit. So if the caller leaves such a field at 0, for example by omitting it from an
+     initializer, a call that uses the field returns an error. For the functions of rrcache.h, a
+     seed or a limit of 0 means the default.
    - If a call fails, neither the history of the shelf nor its replies change, with five exceptions:
      `rrcache_offer_read`, `rrcache_offer_message_unchecked`, `rrcache_offer_part_unchecked`,
      `rrcache_sweep_some` and `rrcache_trim`. Each of these functions performs several steps
      (offers, sweeps or evictions), one after another. If a step fails, the earlier steps are not
      undone. The output `counts` then reports how many of the earlier offers had each outcome, and
-     the output `swept` reports how many keys the earlier sweeps removed. If the shelf records, a
-     failed call may have closed a full chapter, but closing a chapter changes neither the history
+     the output `swept` reports how many keys the earlier sweeps removed. If the shelf is recording,
+     a failed call may have closed a full chapter, but closing a chapter changes neither the history
      nor the replies. If `rrcache_write_chapter` or `rrcache_write_line` fails, it may already have
      written the beginning of the text.
    - If `rrcache_take_chapters` fails, the chapters stay in the shelf. If `rrcache_stop_recording`
@@ -114,14 +114,14 @@
      without a lock. This call reports which shelves the message concerns. For each of these
      shelves, the resolver takes the lock of the shelf and calls `rrcache_offer_read` with the
      number of the shelf. Each of these calls offers only the data of names in one shelf, but
-     together the calls offer everything that `rrcache_read_response` read. The data of each name
-     are then in the shelf that `rrcache_make_name` determines for this name with the same
+     together the calls offer everything that `rrcache_read_response` has read. The data of each
+     name are then in the shelf that `rrcache_make_name` determines for that name, given the same
      `struct rrcache_parts`. No event is added to the history of a shelf that the message does not
      concern.
-   - `rrcache_offer_part_unchecked` reads a message, and offers the data of the names in one shelf
-     to that shelf. For several shelves, the caller must make one call for each shelf, and each call
-     reads the whole message under the lock of its shelf. So use this function only to offer data to
-     a single shelf.
+   - `rrcache_offer_part_unchecked` reads a message, and offers to one shelf the data of the names
+     that belong to that shelf. For several shelves, the caller must make one call for each shelf,
+     and each call reads the whole message under the lock of its shelf. So use this function only to
+     offer data to a single shelf.
    - To follow a CNAME chain from shelf to shelf, call `rrcache_ask_alias` for each name of the
      chain, under the lock of that name's shelf. The caller must limit the number of CNAME records
      that it follows. This limit also ends loops. Each RRset of the chain has its own TTL.
@@ -159,11 +159,11 @@
      reply is a miss, or RRCACHE_NXDOMAIN if an unexpired NXDOMAIN of the name is cached. For type
      ANY, such an NXDOMAIN determines the reply even if unexpired RRsets of higher rank are cached
      for the name.
-   - Even if a message that answers its question has just been offered, the next ask for this
-     question may be a miss. Apart from evictions, there are six possible causes: the answer is at
-     the end of a CNAME chain, or the chain is too long; the TTL of the answer is 0; the type of the
-     question is not kept; the records of an RRset of the answer have different TTLs, AA is clear
-     and `lowest_ttl` is not set; the response is negative but has no suitable SOA record
+   - Even if a message that answers a question has just been offered, the next ask for that question
+     may be a miss. Apart from evictions, there are six possible causes: the answer is at the end of
+     a CNAME chain, or the chain is too long; the TTL of the answer is 0; the type of the question
+     is not kept; the records of an RRset of the answer have different TTLs, AA is clear and
+     `lowest_ttl` is not set; the response is negative but has no suitable SOA record
      (docs/RULES.md, "What a response offers"); or an RRset of the answer is not relevant. In all
      these cases, `rrcache_tell_response` still returns the kind of the response, and
      `rrcache_tell_offer` returns each offer, including an RRset with TTL 0. The caller can answer
@@ -180,9 +180,9 @@
      such a response is offered, but nothing that governs the reply to the question is stored
      (docs/RULES.md, "What is not stored"), the resolver should clear the old RRset. To do so, it
      calls `rrcache_offer_set` with `ttl` 0 and RRCACHE_AUTHORITATIVE_ANSWER.
-   - If the type of the question is kept, a response with any RCODE other than NOERROR and NXDOMAIN,
-     including FORMERR, NOTIMP and REFUSED, offers a failure of the question. If no cached data may
-     answer the question, the reply is then RRCACHE_FAILED until the failure expires or a later
+   - If the type of the question is kept, a response with any RCODE other than NOERROR or NXDOMAIN,
+     including FORMERR, NOTIMP and REFUSED, offers a failure of the question. Then, if no cached
+     data may answer the question, the reply is RRCACHE_FAILED until the failure expires or a later
      entry for the question is stored. So offer such a response only when the resolver can neither
      query another server nor try again without EDNS.
    - If the offers of a message need more new keys than the shelf can hold, later offers evict keys
@@ -198,7 +198,7 @@
      of uses.
    - An entry has expired when its age is at least its TTL. An entry is *fully expired* when it can
      no longer answer. A negative answer or a failure is fully expired as soon as it has expired. An
-     RRset is fully expired `max_stale` seconds after it has expired.
+     RRset becomes fully expired `max_stale` seconds after it expires.
    - If the caller's clock is set back by a number of seconds, all cached data expire that many
      seconds too late. Data that had expired, but have not yet been replaced, cleared, evicted or
      swept, may answer again, and may prevent data of lower rank from being stored. If the clock is
@@ -206,21 +206,21 @@
      according to that clock. Use a clock that cannot be set, and that keeps running while the
      machine is suspended. On Linux, CLOCK_BOOTTIME is such a clock, but CLOCK_MONOTONIC stops
      during suspension.
-   - The order of the calls, not the order of their timestamps, decides which of two events is
+   - The order of the calls, not the order of their timestamps, determines which of two events is
      later.
 
    History and chapters
    - The history of a shelf is a log of events. Each ask, sweep or offer that succeeds is one event,
      and so is an outranked offer. A message causes one event for each offer that is made from it. A
-     trim causes one or two events for each key that it evicts, and one more if it begins with a
-     sweep.
-   - A new shelf does not record its history. While a shelf does not record, its events are numbered
-     but use no memory, no chapter becomes full, and there are no chapters to drop. `rrcache_record`
-     starts recording: from then on, the shelf keeps events in memory. `rrcache_stop_recording`
-     stops recording and returns the recorded chapters that have not been taken or dropped.
-     `rrcache_stop_and_drop` stops recording and frees these chapters. No reply depends on whether a
-     shelf records. The rest of this section applies only while a shelf records, except for the
-     statements about event numbers and chapter numbers.
+     trim causes one or two events for each key that it evicts, and one more event if it begins with
+     a sweep.
+   - A new shelf does not record its history. While a shelf is not recording, its events are
+     numbered but use no memory, no chapter becomes full, and there are no chapters to drop.
+     `rrcache_record` starts recording: from then on, the shelf keeps events in memory.
+     `rrcache_stop_recording` stops recording and returns the recorded chapters that have not been
+     taken or dropped. `rrcache_stop_and_drop` stops recording and frees these chapters. No reply
+     depends on whether a shelf is recording. Except for the statements about event numbers and
+     chapter numbers, the rest of this section applies only while a shelf is recording.
    - An event uses 96 octets of memory, plus the octets of its names and data.
    - A chapter is a segment of the history. The newest chapter is open, which means that new events
      are added to it. If a call has to write an event and the open chapter is full, the call first
@@ -248,13 +248,13 @@
      `rrcache --audit-history` audits an archive: it checks that the history in the archive follows
      the rules. Chapters are numbered from 1, and chapters that were not recorded have numbers too.
      A recording begins with a new chapter, so the number of its first chapter is 2 or higher.
-   - Whether or not the shelf records, event numbers are used up when the next event would have the
-     number 2^62. Chapter numbers are used up when the open chapter is full and has the number 2^62.
-     Once event numbers or chapter numbers are used up, each call that has to write an event returns
-     RRCACHE_HISTORY_FULL, even after chapters have been dropped. However, `rrcache_peek` still
-     returns replies. After RRCACHE_HISTORY_FULL, the resolver has to free the shelf and make a new,
-     empty one. A resolver that uses `struct rrcache` has to close the cache and open a new one
-     instead. At 10^9 events a second, event numbers are used up after 146 years.
+   - Whether or not the shelf is recording, event numbers are used up when the next event would have
+     the number 2^62. Chapter numbers are used up when the open chapter is full and has the number
+     2^62. Once event numbers or chapter numbers are used up, each call that has to write an event
+     returns RRCACHE_HISTORY_FULL, even after chapters have been dropped. However, `rrcache_peek`
+     still returns replies. After RRCACHE_HISTORY_FULL, the resolver has to free the shelf and make
+     a new, empty one. A resolver that uses `struct rrcache` has to close the cache and open a new
+     one instead. At 10^9 events a second, event numbers are used up after 146 years.
 
    Which error is returned
    - If several errors apply, a function of this header returns the first one in this list:
@@ -266,7 +266,7 @@
      RRCACHE_HISTORY_FULL; RRCACHE_MOMENT_TOO_LARGE. The exceptions are `rrcache_sweep_some` and
      `rrcache_trim`, which check for RRCACHE_MOMENT_TOO_LARGE before RRCACHE_HISTORY_FULL.
    - If an allocation fails while a call checks for these errors, the call returns RRCACHE_MEMORY,
-     even if another error, for which the call has not yet checked, also applies.
+     even if an error for which the call has not yet checked also applies.
    - A call that offers a message checks for RRCACHE_HISTORY_FULL and RRCACHE_MOMENT_TOO_LARGE only
      when it makes an offer. If the message has no offers, the call returns RRCACHE_DONE, regardless
      of the timestamp and even if event numbers or chapter numbers are used up.
@@ -280,18 +280,18 @@
    Names are in wire form (RFC 1035 section 3.1): complete, without compression pointers, and at
    most 255 octets long, including the zero octet at the end. Letters may be in upper or lower case.
    Except in `struct rrcache_place`, the field `line` of a struct is any number that the caller
-   chooses. While a shelf records, it keeps this number with each event of the call to which the
-   struct is passed. A pointer to octets or to an array may be null only if the size that is passed
-   with the pointer is 0.
+   chooses. While a shelf is recording, it keeps this number with each event of the call to which
+   the struct is passed. A pointer to octets or to an array may be null only if the size that is
+   passed with the pointer is 0.
 
    The names of the exported functions that this header declares begin with `rrc_`. These functions
    require pointers that are not null, and buffers that do not overlap. The inline functions that a
    resolver calls check these conditions. They then call an exported function, except
    `rrcache_compose_response`, `rrcache_tell_octets` and `rrcache_status_text`, which call none. An
    inline function returns RRCACHE_NULL if a required pointer is null. It returns RRCACHE_OVERLAP if
-   anything that it writes, including the handle, overlaps another output or an input. There is one
-   exception: if an input struct of a call contains pointers, as `struct rrcache_response` does, an
-   output may overlap any input struct of this call. The function reads these structs before it
+   any memory that it writes, including the handle, overlaps another output or an input. There is
+   one exception: if an input struct of a call contains pointers, as `struct rrcache_response` does,
+   an output may overlap any input struct of that call. The function reads these structs before it
    writes anything. Inputs may overlap each other. The library cannot check whether a handle or a
    name was initialized to zeros, whether two threads use one handle at the same time, or whether a
    buffer is as large as the size that is passed with the buffer. */
@@ -352,12 +352,11 @@ enum rrcache_status {
     RRCACHE_BAD_DATA = 13,        /* the rdata do not match the layout of their type, or are cut
                                      off */
     RRCACHE_WRONG_BODY = 14,      /* an RRset has no data, or a TTL is above 2^31 - 1 */
-    RRCACHE_WIDE = 15,            /* a record of the reply has more than 65,535 octets of rdata,
-                                     which is too many for any message, or all records of the reply
-                                     together have at least 2^64 octets of rdata */
+    RRCACHE_WIDE = 15,            /* a record of the reply has more than 65,535 octets of rdata (too
+                                     many for any message), or all records of the reply together
+                                     have at least 2^64 octets of rdata */
     RRCACHE_SMALL = 16,           /* the buffer is too small. For functions of this header, `told`
-                                     or `size` reports the required size, and no event was
-                                     written */
+                                     or `size` reports the required size, and no event is written */
     RRCACHE_NULL = 17,            /* a required pointer is null (never returned by `rrc_`
                                      functions) */
     RRCACHE_NO_OFFERS = 18,       /* the handle holds no offers, or no offer with the given
@@ -427,7 +426,7 @@ enum rrcache_trust {
                                              response, if the owner is the name of the question */
 };
 
-/* The sections of a response that have records (RFC 1035 section 4.1). */
+/* The sections of a response that contain records (RFC 1035 section 4.1). */
 enum rrcache_section {
     RRCACHE_ANSWER_SECTION = 1,
     RRCACHE_AUTHORITY_SECTION = 2,
@@ -461,8 +460,8 @@ enum rrcache_response_kind {
                                       section 4.3.2) */
     RRCACHE_RESPONSE_ALIAS = 6,    /* a CNAME chain leads to a name that is out of bailiwick, or to
                                       a name for which the response neither has data nor denies that
-                                      there are data: look up that name, and send a query for it if
-                                      the look-up misses */
+                                      there are data. Look up that name and, if the look-up misses,
+                                      send a query for it */
     RRCACHE_RESPONSE_FAILURE = 7,  /* the RCODE is neither NOERROR nor NXDOMAIN */
     RRCACHE_RESPONSE_UNUSABLE = 8  /* none of the kinds above. For example, a response has this
                                       kind if TC is set, if the opcode is not QUERY, if the class of
@@ -532,9 +531,9 @@ struct rrcache_name {
 
 /* How names are divided among shelves: `count` is the number of shelves, 1 to 64, and `seed` is the
    seed in the rules of these shelves. The library hashes names with SipHash-1-3 under this seed,
-   and the upper 32 bits of the hash determine the shelf. Under another seed, a name may belong to
-   another shelf. So calls return RRCACHE_OTHER_SEED for a name that was made, or a message that was
-   read, under a seed that is not the seed of the shelf. */
+   and the upper 32 bits of the hash determine the shelf. Under a different seed, a name may belong
+   to a different shelf. So calls return RRCACHE_OTHER_SEED for a name that was made, or a message
+   that was read, under a seed that is not the seed of the shelf. */
 struct rrcache_parts {
     uint64_t count;
     uint8_t seed[16];
@@ -563,33 +562,33 @@ struct rrcache_question {
 /* The entry of a key. All fields are 0 if nothing is stored, and also if the reply to an ask or a
    peek has the kind RRCACHE_MISS or RRCACHE_FAILED. An auditor can look up `number` in the history
    of the shelf to find the event that stored the entry. Two entries of one shelf never have the
-   same `number`, but entries of two shelves may. So a caller that keeps its own data about entries
-   must look up these data by the shelf and `number`, or by the name and `number`. The name can
-   replace the shelf, because all entries of a name are in one shelf. */
+   same `number`, but entries of different shelves may. So a caller that keeps its own data about
+   entries must look up these data by the shelf and `number`, or by the name and `number`. The name
+   can be used instead of the shelf, because all entries of a name are in one shelf. */
 struct rrcache_entry {
     uint32_t kind;   /* enum rrcache_kind, or 0 if nothing is stored */
     uint32_t trust;  /* enum rrcache_trust; 0 for a failure */
     uint32_t ttl;    /* the TTL that was stored. For data from a message, the limits in `struct
                         rrcache_limits` apply: the TTL of an RRset is at most `cap`, the TTL of a
                         negative answer is at most the lower of `cap` and `negative_cap`, and the
-                        TTL of a failure is `recheck`. For other data, it is the TTL that was
-                        offered. A resolver that prefetches renews an entry if a client asks for it
+                        TTL of a failure is `recheck`. For other data, `ttl` is the TTL that was
+                        offered. To prefetch, a resolver renews an entry if a client asks for it
                         shortly before `ttl` seconds have passed since `moment` */
     uint64_t moment; /* the timestamp of the offer that was stored */
     uint64_t number; /* the number of the event that stored the entry; no other entry of the shelf
                         has this number */
     uint64_t age;    /* not a time, but the number of uses of keys since the last use of this key.
                         The number of other keys used since then is at most `age`. A key is used
-                        when an entry is stored under it, and when its entry answers an ask. In a
-                        reply, `age` is the value that it had before the ask or peek. An ask then
-                        moves the entry to the front of the LRU order, but a peek does not. If the
-                        entry is already at the front (`age` 0), an ask does not count as a use */
+                        when an entry is stored under it, and when its entry answers an ask. A reply
+                        contains the value that `age` had before the ask or peek. An ask then moves
+                        the entry to the front of the LRU order, but a peek does not. If the entry
+                        is already at the front (`age` 0), an ask does not count as a use */
 };
 
 /* A reply. The first `owner_size` octets of the buffer are the owner of the RRset or, in a negative
    answer, of the SOA record. The owner is in wire form, in the spelling in which it was received.
    The next `data_size` octets are the rdata of all records of the RRset, or of the SOA record. A
-   length of two octets, high octet first, precedes the rdata of each record. A reply of kind
+   two-octet length field, high octet first, precedes the rdata of each record. A reply of kind
    RRCACHE_MISS or RRCACHE_FAILED has neither an owner nor rdata. */
 struct rrcache_told {
     uint32_t kind;       /* enum rrcache_kind */
@@ -629,8 +628,8 @@ struct rrcache_stored {
 struct rrcache_counts {
     uint64_t kept;
     uint64_t cleared;
-    uint64_t outranked; /* offers whose data were not stored, because the key holds unexpired data
-                           of higher rank. Such an offer is an event, and not an error */
+    uint64_t outranked; /* offers whose data were not stored, because the key held unexpired data of
+                           higher rank. Such an offer is an event, not an error */
 };
 
 /* The limits, in seconds, on how long data of a response may be cached. */
@@ -687,13 +686,13 @@ struct rrcache_usage {
     uint64_t octets; /* the approximate number of octets of memory that the keys use */
 };
 
-/* Which offers of a message to make: the offers for one part. Parts are counted from 0. */
+/* Which offers of a message to make: the offers for one part. Parts are numbered from 0. */
 struct rrcache_share {
     uint64_t part;
     uint64_t line;
 };
 
-/* Which offer of a message to make. Offers are counted from 0. */
+/* Which offer of a message to make. Offers are numbered from 0. */
 struct rrcache_offer_pick {
     uint64_t index;
     uint64_t line;
@@ -722,8 +721,8 @@ struct rrcache_line {
    ABI of the library. These structs keep their size and their fields in all versions with the same
    soname. The inline functions of this header pass only the fields of the structs below to the
    library, never the structs themselves. However, exported functions of rrcache.h read or write all
-   of these structs except `struct rrcache_parsed_response`. So a later version of this header may
-   add fields to `struct rrcache_parsed_response`, but not to the other structs below. */
+   of the structs below except `struct rrcache_parsed_response`. So a later version of this header
+   may add fields to `struct rrcache_parsed_response`, but not to the other structs below. */
 
 /* The query that a response has to answer. */
 struct rrcache_query {
@@ -758,7 +757,7 @@ struct rrcache_response {
 };
 
 /* An RRset of a response that a resolver parsed itself. `data` contains the rdata of all records,
-   one after another, without compressed names. A length of two octets, high octet first, precedes
+   one after another, without compressed names. A two-octet length field, high octet first, precedes
    the rdata of each record. */
 struct rrcache_parsed_set {
     const uint8_t *owner;
@@ -784,7 +783,8 @@ struct rrcache_parsed_response {
 };
 
 /* An RRset to offer. `data` contains the rdata of all records, one after another, without
-   compressed names. A length of two octets, high octet first, precedes the rdata of each record. */
+   compressed names. A two-octet length field, high octet first, precedes the rdata of each
+   record. */
 struct rrcache_set {
     const uint8_t *owner;
     size_t owner_size;
@@ -800,7 +800,7 @@ struct rrcache_set {
 
 /* A negative answer to offer: the name has no data of the type (`kind` RRCACHE_NODATA), or does not
    exist (RRCACHE_NXDOMAIN). `soa` contains the rdata of the SOA record of the negative answer,
-   without compressed names. With RRCACHE_NXDOMAIN, `rtype` is ignored, because a name that does not
+   without compressed names. For RRCACHE_NXDOMAIN, `rtype` is ignored, because a name that does not
    exist has no data of any type. */
 struct rrcache_negative {
     const uint8_t *name;
@@ -1136,8 +1136,8 @@ static inline enum rrcache_status rrcache_make_name(struct rrcache_name *name,
 }
 
 /* Starts recording the history of the shelf. The open chapter ends without being recorded, and the
-   next chapter begins with the entries of the shelf. The call needs as much memory and time as the
-   closing of a chapter in which every key was used. Replies do not change. If the shelf is already
+   next chapter begins with the entries of the shelf. The call needs as much memory and time as
+   closing a chapter in which every key was used. Replies do not change. If the shelf is already
    recording, the call does nothing. Returns RRCACHE_HISTORY_FULL if the open chapter has the number
    2^62. If the call fails, the shelf is unchanged. Needs the write lock. */
 static inline enum rrcache_status rrcache_record(struct rrcache_shelf *shelf)
@@ -1378,11 +1378,11 @@ static inline size_t rrcache_put_response(const struct rrcache_query *query,
    In the message, the RRsets of a section are in the order of the array `sets`, and the records of
    an RRset are in the order of its data. If the records of an RRset have different TTLs, pass one
    `struct rrcache_parsed_set` for each record. When the message is read, all sets of a section that
-   have the same owner, type and class become one RRset. An OPT record may be left out, because it
-   causes no offer. If data do not match the layout of their type, the call that reads the message
-   returns RRCACHE_BAD_MESSAGE. Names in the data must not contain compression pointers, because a
-   pointer would lead to the wrong offset in the new message. `rrcache_compose_response` does not
-   check for such pointers.
+   have the same owner, type and class become one RRset. An OPT record may be left out, because
+   nothing from it is offered. If data do not match the layout of their type, the call that reads
+   the message returns RRCACHE_BAD_MESSAGE. Names in the data must not contain compression pointers,
+   because a pointer would lead to the wrong offset in the new message. `rrcache_compose_response`
+   does not check for such pointers.
 
    Returns RRCACHE_BAD_CHOICE if `section` of a set is not a value of `enum rrcache_section`, or if
    the RCODE is above 15; RRCACHE_BAD_TYPE if a type or a class is 0, in a set or in the query (RFC
@@ -1492,10 +1492,10 @@ static inline enum rrcache_status rrcache_can_read(const struct rrcache_response
      is a referral (RFC 1034 section 4.3.2). This restriction prevents the servers of a zone from
      renewing the delegation of the zone by adding NS records to the authority section of other
      responses. In a referral, AA is clear and the owner of the NS RRset is below `zone`. A repeated
-     referral renews its NS RRset. A caller that wants a delegation to end when the TTL from the
-     first referral runs out must peek for the NS RRset of each referral before it makes the offers
-     of that referral. If an unexpired NS RRset with the same data is cached, the caller must not
-     make the offers for the part to which the owner of this RRset belongs.
+     referral renews its NS RRset. To let a delegation end when the TTL from the first referral
+     expires, a caller must peek for the NS RRset of each referral before it makes the offers of
+     that referral. If an unexpired NS RRset with the same data is cached, the caller must not make
+     the offers for the part to which the owner of this RRset belongs.
    - An RRset with more than 16,384 octets of rdata.
    - In class IN, an RRset of type A if any of its rdata are not 4 octets long, or an RRset of type
      AAAA if any of its rdata are not 16 octets long.
@@ -1541,8 +1541,8 @@ static inline enum rrcache_status rrcache_read_response(struct rrcache_offers *o
 /* Reads a response as `rrcache_read_response` does, but does not compare the response with a query.
    The handle then holds all offers of the response that are in bailiwick. The call ignores
    `lowest_ttl` and `clears_denied` of the response. A `response` line of a trace (docs/FORMATS.md)
-   causes the same offers. The errors are those of `rrcache_read_response`, but RRCACHE_BAD_MESSAGE
-   replaces RRCACHE_OTHER_QUERY and RRCACHE_NO_QUESTION. Needs no lock. */
+   leads to the same offers. The errors are those of `rrcache_read_response`, but
+   RRCACHE_BAD_MESSAGE replaces RRCACHE_OTHER_QUERY and RRCACHE_NO_QUESTION. Needs no lock. */
 static inline enum rrcache_status
 rrcache_read_message_unchecked(struct rrcache_offers *offers,
                                const struct rrcache_response *response,
@@ -1565,11 +1565,11 @@ rrcache_read_message_unchecked(struct rrcache_offers *offers,
 }
 
 /* Makes all offers that a handle holds for one part. The offers are made to the shelf of this part,
-   with the timestamp of the response. `share->part` is the number of the part: it is counted from
-   0, and must be below the number of parts for which the message was read. The handle keeps the
-   offers, so the caller may make the offers for a part again. The shelf keeps its stored data even
-   after the offers of the handle are freed. The call copies no names and no data. In `counts`, the
-   call reports how many of the offers had each outcome. If an offer fails, `counts` covers only the
+   with the timestamp of the response. `share->part` is the number of the part, counted from 0, and
+   must be below the number of parts for which the message was read. The handle keeps the offers, so
+   the caller may make the offers for a part again. The shelf keeps its stored data even after the
+   offers of the handle are freed. The call copies no names and no data. In `counts`, the call
+   reports how many of the offers had each outcome. If an offer fails, `counts` covers only the
    earlier offers. Returns RRCACHE_BAD_RULES if there is no part with the number `share->part`.
    Returns RRCACHE_OTHER_SEED if the message was read with a seed that is not the seed of the shelf,
    because asks would not find the data in this shelf. Needs the write lock of the shelf. */
@@ -1621,8 +1621,8 @@ static inline enum rrcache_status rrcache_tell_response(struct rrcache_offers *o
 
    Returns RRCACHE_NO_OFFERS if the handle has no offer with the number `index`. Returns
    RRCACHE_SMALL if the buffer is too small: the call then writes to `name` and `told`, but leaves
-   the buffer unmodified. For an offer that `rrcache_read_response` read, a buffer of 28,551 octets
-   is always large enough. The call never allocates, and needs no lock. */
+   the buffer unmodified. For an offer that `rrcache_read_response` has read, a buffer of 28,551
+   octets is always large enough. The call never allocates, and needs no lock. */
 static inline enum rrcache_status rrcache_tell_offer(struct rrcache_offers *offers, uint64_t index,
                                                      struct rrcache_name *name,
                                                      struct rrcache_told *told, uint8_t *buffer,
@@ -1640,7 +1640,7 @@ static inline enum rrcache_status rrcache_tell_offer(struct rrcache_offers *offe
                                                buffer_size == 0 ? &none : buffer, buffer_size);
 }
 
-/* Returns how many octets of memory a name or rdata of `size` octets uses, whether it is stored
+/* Returns how many octets of memory `size` octets of a name or rdata use, whether they are stored
    inline or in a separate block. */
 static inline uint64_t rrcache_room(uint64_t size)
 {
@@ -1661,13 +1661,13 @@ static inline uint64_t rrcache_data_room(const uint8_t *data, uint64_t size)
     return octets + (count > 1 ? RRCACHE_VALUE_OCTETS + RRCACHE_BLOCK_OCTETS : 0);
 }
 
-/* Writes to `octets` how many octets of memory an offer would use if it were stored under a new
-   key. The call counts octets in the same way as `rrcache_sizes`. `name`, `told` and `buffer` are
-   the output of `rrcache_tell_offer`. If an offer would use more octets than the limit to which the
-   caller trims the shelf, the trim after this offer would evict all keys. To avoid this, the caller
-   can make only the other offers of the message, with `rrcache_offer_one`, and answer the waiting
-   client from the output of `rrcache_tell_offer`. Returns RRCACHE_SMALL if `buffer_size` is less
-   than the sum of the sizes in `told`. Needs no lock. */
+/* Writes to `octets` the number of octets of memory that an offer would use if it were stored under
+   a new key. The call counts octets in the same way as `rrcache_sizes`. `name`, `told` and `buffer`
+   are the output of `rrcache_tell_offer`. If an offer would use more octets than the limit to which
+   the caller trims the shelf, the trim after this offer would evict all keys. To avoid this, the
+   caller can make only the other offers of the message, with `rrcache_offer_one`, and answer the
+   waiting client from the output of `rrcache_tell_offer`. Returns RRCACHE_SMALL if `buffer_size` is
+   less than the sum of the sizes in `told`. Needs no lock. */
 static inline enum rrcache_status rrcache_tell_octets(const struct rrcache_name *name,
                                                       const struct rrcache_told *told,
                                                       const uint8_t *buffer, size_t buffer_size,
@@ -1751,7 +1751,7 @@ rrcache_offer_message_unchecked(struct rrcache_shelf *shelf,
 }
 
 /* Does what `rrcache_offer_message_unchecked` does, but offers only the data of names in one part.
-   Parts are counted from 0. Offers for other parts are neither made nor counted. Returns
+   Parts are numbered from 0. Offers for other parts are neither made nor counted. Returns
    RRCACHE_BAD_RULES if there is no part with the number `share->part`, or if `parts->count` is not
    in the range 1 to 64; RRCACHE_BAD_SEED if `parts->seed` is all zeros; and RRCACHE_OTHER_SEED if
    `parts->seed` is not the seed of the shelf. The other errors are those of
@@ -1902,8 +1902,8 @@ static inline enum rrcache_status rrcache_can_tell(const struct rrcache_shelf *s
     return RRCACHE_DONE;
 }
 
-/* Looks up the answer to a question. The call is one event, and moves the entry that gives the
-   answer to the front of the LRU order. The call writes the reply to `told` and `buffer`.
+/* Looks up the answer to a question. The call is one event, and moves the entry that answers the
+   question to the front of the LRU order. The call writes the reply to `told` and `buffer`.
 
    Returns RRCACHE_BAD_CHOICE if the question has an unknown purpose or mode, RRCACHE_BAD_TYPE if
    its type is 0 or its class is not kept, RRCACHE_BAD_NAME if `name` holds no name, and
@@ -1915,9 +1915,9 @@ static inline enum rrcache_status rrcache_can_tell(const struct rrcache_shelf *s
    write lock.
 
    A reply needs at most 255 octets for its owner, plus the octets of its data. For data that
-   `rrcache_read_response` read, 28,551 octets are always enough: 255 for the owner, 16,384 for the
-   rdata, and 11,912 for the lengths that precede the rdata. Each length takes 2 octets, and at most
-   5,956 records fit in a message. */
+   `rrcache_read_response` has read, 28,551 octets are always enough: 255 for the owner, 16,384 for
+   the rdata, and 11,912 for the lengths that precede the rdata. Each length takes 2 octets, and at
+   most 5,956 records fit in a message. */
 static inline enum rrcache_status rrcache_ask(struct rrcache_shelf *shelf,
                                               const struct rrcache_name *name,
                                               const struct rrcache_question *question,
@@ -1985,8 +1985,8 @@ static inline enum rrcache_status rrcache_peek(const struct rrcache_shelf *shelf
 
    A failure belongs to the name and type of the question. So with RRCACHE_STALE_IF_FAILED, an
    expired CNAME record may be returned as a stale answer only if the shelf holds a recent failure
-   of the type of the question. A failure of type CNAME does not count. A failure of the question is
-   not a failure of the names to which the CNAME record leads. So to learn whether stale answers are
+   of the question's type. A failure of type CNAME does not count. A failure of the question is not
+   a failure of the names to which the CNAME record leads. So to learn whether stale answers are
    acceptable for these names, peek for the question with RRCACHE_NO_STALE. If the reply has the
    kind RRCACHE_FAILED, ask for each name of the chain with RRCACHE_STALE_NOW. If the shelf holds
    unexpired data of the question's type, and these data are older than the failure, the peek
@@ -2073,11 +2073,11 @@ rrcache_sweep(struct rrcache_shelf *shelf, const struct rrcache_sweep_at *sweep,
 /* Writes to `moment` a timestamp before which no key of the shelf is fully expired. A sweep at a
    timestamp before `moment` removes nothing, and even a sweep at `moment` may remove nothing. If
    the shelf holds a key but has not been swept yet, `moment` is the earliest timestamp at which any
-   entry stored so far is fully expired. Entries that the shelf no longer holds count too. After a
-   sweep, until an offer is made or a chapter is closed, `moment` is later than the timestamp of the
-   sweep. So the following loop always ends: call this function; if `moment` is not later than the
-   current time, sweep at `moment` and begin again. `moment` is UINT64_MAX if and only if the shelf
-   holds no key. The call writes no event, and needs only the read lock. */
+   entry stored so far becomes fully expired. Entries that the shelf no longer holds count too.
+   After a sweep, until an offer is made or a chapter is closed, `moment` is later than the
+   timestamp of the sweep. So the following loop always ends: call this function; if `moment` is not
+   later than the current time, sweep at `moment` and begin again. `moment` is UINT64_MAX if and
+   only if the shelf holds no key. The call writes no event, and needs only the read lock. */
 static inline enum rrcache_status rrcache_next_expiry(const struct rrcache_shelf *shelf,
                                                       uint64_t *moment)
 {
@@ -2091,7 +2091,7 @@ static inline enum rrcache_status rrcache_next_expiry(const struct rrcache_shelf
 }
 
 /* Sweeps in steps, so that a call usually takes little time. Each step is a sweep at the timestamp
-   that `rrcache_next_expiry` would then return, and is one event. The call stops when that
+   that `rrcache_next_expiry` would then report, and is one event. The call stops when that
    timestamp is later than `moment`, when at least `most` keys have been removed, or after `most`
    steps. A call may take a long time for two reasons: all keys that fully expire in the same second
    are removed in one step, and the first sweep of a shelf visits all its keys. Some steps may
@@ -2124,8 +2124,8 @@ static inline enum rrcache_status rrcache_sweep_some(struct rrcache_shelf *shelf
    In a trim, the eviction of data is one event: an offer of these data with TTL 0, which clears the
    key. The eviction of a failure is two events: an offer of a failure with TTL 0, and a sweep at
    timestamp 0, which removes only entries with TTL 0. If the shelf already holds a failure with TTL
-   0, or has held one since its last sweep, the trim begins with a sweep at timestamp 0, and
-   `trimmed` does not count the keys that this sweep removes.
+   0, or has held one since its last sweep, the trim begins with a sweep at timestamp 0. `trimmed`
+   does not count the keys that this sweep removes.
 
    A trim does not limit all of the memory that a shelf uses. The first sweep of a shelf visits all
    its keys, and from then on the shelf keeps the times at which its keys fully expire.
@@ -2136,7 +2136,7 @@ static inline enum rrcache_status rrcache_sweep_some(struct rrcache_shelf *shelf
    Returns RRCACHE_BAD_RULES if `limit` or `most` is 0, and RRCACHE_MOMENT_TOO_LARGE if the
    timestamp is above 2^40. In either case, the call does nothing. The call may return
    RRCACHE_MEMORY or RRCACHE_HISTORY_FULL after it has removed some keys: these keys stay removed,
-   and `trimmed` is unmodified. While the shelf does not record, a trim allocates memory only for a
+   and `trimmed` is unmodified. While the shelf is not recording, a trim allocates memory only for a
    sweep at timestamp 0. */
 static inline enum rrcache_status rrcache_trim(struct rrcache_shelf *shelf,
                                                const struct rrcache_trim_to *trim,
@@ -2151,7 +2151,7 @@ static inline enum rrcache_status rrcache_trim(struct rrcache_shelf *shelf,
 }
 
 /* Frees the closed chapters of the shelf, with all their events, and writes the number of these
-   chapters to `dropped`. The number is 0 while the shelf does not record. Replies do not change.
+   chapters to `dropped`. The number is 0 while the shelf is not recording. Replies do not change.
    Needs the write lock. */
 static inline enum rrcache_status rrcache_drop_chapters(struct rrcache_shelf *shelf,
                                                         uint64_t *dropped)
@@ -2178,11 +2178,12 @@ static inline enum rrcache_status rrcache_can_take(const struct rrcache_shelf *s
 }
 
 /* Moves the closed chapters of the shelf, the oldest first, into a handle that holds no chapters,
-   and writes the number of these chapters to `count`. `count` is 0 while the shelf does not record.
-   Replies do not change. The call allocates one small memory block of fixed size. The time that the
-   call takes does not grow with the number of chapters or events. Later calls on these chapters do
-   not need the lock of the shelf. Free the chapters with `rrcache_free_chapters`, even if `count`
-   is 0. Returns RRCACHE_HAS_CHAPTERS if the handle already holds chapters. Needs the write lock. */
+   and writes the number of these chapters to `count`. `count` is 0 while the shelf is not
+   recording. Replies do not change. The call allocates one small memory block of fixed size. The
+   time that the call takes does not grow with the number of chapters or events. Later calls on
+   these chapters do not need the lock of the shelf. Free the chapters with `rrcache_free_chapters`,
+   even if `count` is 0. Returns RRCACHE_HAS_CHAPTERS if the handle already holds chapters. Needs
+   the write lock. */
 static inline enum rrcache_status rrcache_take_chapters(struct rrcache_shelf *shelf,
                                                         struct rrcache_chapters *chapters,
                                                         uint64_t *count)
@@ -2204,8 +2205,8 @@ static inline enum rrcache_status rrcache_take_chapters(struct rrcache_shelf *sh
    If this call directly follows the call to `rrcache_record` that started the recording, the handle
    then holds one chapter, which has no events. The lines of this chapter list all entries of the
    shelf, so a caller can save the contents of the shelf in this way. No call restores a shelf from
-   such a chapter, but a caller can offer the entries to an empty shelf, in the order of their event
-   numbers, each with the timestamp, rank and TTL from its line. */
+   such a chapter. However, a caller can offer the entries to an empty shelf in the order of their
+   event numbers, each with the timestamp, rank and TTL from its line. */
 static inline enum rrcache_status rrcache_stop_recording(struct rrcache_shelf *shelf,
                                                          struct rrcache_chapters *chapters,
                                                          uint64_t *count)
@@ -2217,17 +2218,17 @@ static inline enum rrcache_status rrcache_stop_recording(struct rrcache_shelf *s
 }
 
 /* Writes a line of a chapter to the beginning of `buffer`, starting with the octet `place->from` of
-   the line. If the rest of the line does not fit, the call writes only as many octets as fit. All
-   fields of `place` are counted from 0. The call writes to `told->size` the number of octets of the
-   line, including its LF, and to `told->written` the number of octets that it wrote to the buffer.
-   `told->written` is 0 if `place->from` is at or after the end of the line. The first line of a
-   chapter contains the number of the chapter, the number of its first event, and the rules of the
-   shelf except the seed. The first line is followed by a line for each key that was cached when the
-   chapter began, and then by a line for each event. The lines have the same form as in an archive
-   (docs/FORMATS.md). Returns RRCACHE_NO_CHAPTERS if the handle holds no chapters. Returns
-   RRCACHE_NO_LINE if the handle has no chapter `place->chapter`, or if this chapter has no line
-   `place->line`. The call allocates memory for the whole line, and frees this memory before it
-   returns. Needs no lock. */
+   the line. If the rest of the line does not fit, the call writes only as many octets as fit. In
+   `place`, chapters, lines and octets are counted from 0. The call writes to `told->size` the
+   number of octets of the line, including its LF, and to `told->written` the number of octets that
+   it wrote to the buffer. `told->written` is 0 if `place->from` is at or after the end of the line.
+   The first line of a chapter contains the number of the chapter, the number of its first event,
+   and the rules of the shelf except the seed. The first line is followed by a line for each key
+   that was cached when the chapter began, and then by a line for each event. The lines have the
+   same form as in an archive (docs/FORMATS.md). Returns RRCACHE_NO_CHAPTERS if the handle holds no
+   chapters. Returns RRCACHE_NO_LINE if the handle has no chapter `place->chapter`, or if this
+   chapter has no line `place->line`. The call allocates memory for the whole line, and frees this
+   memory before it returns. Needs no lock. */
 static inline enum rrcache_status rrcache_chapter_line(struct rrcache_chapters *chapters,
                                                        const struct rrcache_place *place,
                                                        uint8_t *buffer, size_t buffer_size,
@@ -2245,11 +2246,11 @@ static inline enum rrcache_status rrcache_chapter_line(struct rrcache_chapters *
                                                  buffer_size, told);
 }
 
-/* Writes a line of a chapter to `sink`, from the octet `place->from` of the line to its LF. All
-   fields of `place` are counted from 0. Each call to the sink passes RRCACHE_PIECE_OCTETS octets of
-   the line, except the last call, which passes the rest. If the sink returns nonzero,
-   `rrcache_write_line` writes nothing more and returns RRCACHE_SINK. The other errors are those of
-   `rrcache_chapter_line`. Needs no lock. */
+/* Writes a line of a chapter to `sink`, from the octet `place->from` of the line to its LF. In
+   `place`, chapters, lines and octets are counted from 0. Each call to the sink passes
+   RRCACHE_PIECE_OCTETS octets of the line, except the last call, which passes the rest. If the sink
+   returns nonzero, `rrcache_write_line` writes nothing more and returns RRCACHE_SINK. The other
+   errors are those of `rrcache_chapter_line`. Needs no lock. */
 static inline enum rrcache_status rrcache_write_line(struct rrcache_chapters *chapters,
                                                      const struct rrcache_place *place,
                                                      rrcache_sink sink, void *state)
@@ -2310,7 +2311,7 @@ static inline enum rrcache_status rrcache_free_chapters(struct rrcache_chapters 
    number of keys includes fully expired keys that have not been swept yet. Keys of all three kinds
    are counted: those for the RRset or NODATA of a name, a class and a type; those for the NXDOMAIN
    of a name and a class; and those for the resolution failure of a name, a class and a type. While
-   the shelf does not record, the numbers of events and chapters are 0. Needs only the read lock.
+   the shelf is not recording, the numbers of events and chapters are 0. Needs only the read lock.
 
    The number of octets is approximately the amount of memory that the keys use. A key uses
    RRCACHE_ENTRY_OCTETS, plus the octets for its name. An RRset uses RRCACHE_SHARED_OCTETS, plus the
@@ -2326,9 +2327,9 @@ static inline enum rrcache_status rrcache_free_chapters(struct rrcache_chapters 
    `rrcache_sizes` takes does not grow with the number of keys. The number of octets does not
    include the memory of events and chapters, which keep data even after the data have been
    replaced, evicted or swept. Nor does it include the names and expiry times of evicted and cleared
-   keys: a shelf that has been swept keeps them until these keys would have fully expired. If the
-   shelf held n keys when data were last stored, it keeps at most 3n + 64 expiry times, including
-   those of the keys that it still holds. */
+   keys: a shelf that has been swept keeps these names and times until the keys would have fully
+   expired. If the shelf held n keys when data were last stored, it keeps at most 3n + 64 expiry
+   times, including those of the keys that it still holds. */
 static inline enum rrcache_status rrcache_sizes(const struct rrcache_shelf *shelf,
                                                 struct rrcache_usage *sizes)
 {
