@@ -10,7 +10,7 @@
 
    The section "A caller's checklist" of SECURITY.md lists what a resolver itself has to do. The
    program examples/stub.c is a complete stub resolver that uses a `struct rrcache`. The program
-   examples/iterate.c uses one to follow delegations from the root servers. A process may open
+   examples/iterate.c uses a cache to follow delegations from the root servers. A process may open
    several caches, for example one for each view. Each cache has its own seed and limits.
 
    Threads
@@ -28,7 +28,7 @@
      process stores after the fork. Processes cannot share a cache.
    - The library chooses the shelf of a name by a hash of the name under a secret seed. Each shelf
      has `readers` places (see `struct rrcache_config`). A place is a lock that one thread at a time
-     holds during a look-up. The library assigns threads to these places in turn. A look-up that
+     can hold during a look-up. The library assigns threads to these places in turn. A look-up that
      changes nothing in its shelf takes only one place: the place of its thread or, if that place is
      taken, another place. Such look-ups do not block each other, even for the same name, if each
      shelf has at least as many places as there are threads. A call that changes a shelf keeps new
@@ -38,11 +38,11 @@
    - No call holds the locks of two shelves at the same time, so calls are not atomic across
      shelves: while one call looks up or stores data in several shelves, other calls may change
      these shelves. When `rrcache_store` stores several RRsets in one shelf, it may even release the
-     lock of that shelf between two of them. However, `rrcache_lookup` is atomic if it finds no
-     CNAME record, and so are `rrcache_store_set`, `rrcache_store_negative`,
-     `rrcache_store_failure`, and `rrcache_forget` with a type other than ANY.
-   - If a look-up is repeated with the same timestamp, and the name is in lower case, the library
-     may copy the answer from a memo, which is a saved copy of an earlier answer. The library uses a
+     lock of that shelf between two of them. However, these calls are atomic: `rrcache_lookup` if it
+     finds no CNAME record, `rrcache_store_set`, `rrcache_store_negative`, `rrcache_store_failure`,
+     and `rrcache_forget` with a type other than ANY.
+   - If a look-up is repeated with the same timestamp and the name is in lower case, the library may
+     copy the answer from a memo, which is a saved copy of an earlier answer. The library uses a
      memo only if nothing in the shelf of the name has changed since the earlier answer was
      returned. The library keeps memos only of negative answers and of answers with a single RRset.
      A look-up that is answered from a memo takes no place. The result of this look-up and its
@@ -54,8 +54,8 @@
      these files. ThreadSanitizer may still falsely report races in `free`, because it does not see
      how shelves count the references to data. The line `race_top:free$` in a suppressions file
      prevents these reports.
-   - Eviction follows the LRU order. However, a look-up does not always move the entry that it finds
-     to the front of this order, because a move changes the shelf. In a shelf that is at least three
+   - Eviction follows the LRU order. However, the entry that a look-up finds does not always move to
+     the front of this order, because a move changes the shelf. In a shelf that is at least three
      quarters full, by octets or by keys, a look-up moves its entry if more than a quarter of the
      shelf's keys may have been used since the last use of that entry. Otherwise, a look-up moves
      its entry in only two cases. First, it does so if most of the recent look-ups that took the
@@ -79,8 +79,8 @@
      each key that `keys` allows (2 octets with the default `keys`). For a total of 512 MiB with the
      default `keys`, for example, set `octets` to 192 MiB. SECURITY.md reports the measurements
      behind the factor of two and a half, and says what was not measured.
-   - In addition, `rrcache_open` allocates the places, the memos, and two filters: one of the names
-     that may own a CNAME RRset, and one of the names that may have an NXDOMAIN or a failure. All
+   - In addition, `rrcache_open` allocates the places, the memos, and two filters: one for the names
+     that may own a CNAME RRset, and one for the names that may have an NXDOMAIN or a failure. All
      memos together use at most 1/16 of `octets`, and at most about 460 KiB times `readers`. The
      first filter uses at most about 1/80 of `octets`, and at most 128 KiB for each shelf. The
      second filter uses 2 to 4 octets for each key that `keys` allows, because its size for each
@@ -91,9 +91,9 @@
      RRset of one address record with a short owner name counts as 320 octets, so a cache holds at
      most about 1.3 GB of such RRsets, even if `octets` is larger. A million names, each with one A
      and one AAAA record, count as 640 MB. An NS RRset of two short names counts as 432 octets, and
-     a negative answer with an SOA record of 61 octets of rdata as 477 octets. These are counted
-     octets: by the rule above, plan for about 3.5 GB of memory instead of 1.3 GB, and for about 1.7
-     GB instead of 640 MB.
+     a negative answer with an SOA record of 61 octets of rdata as 477 octets. These numbers are
+     counted octets: by the rule above, plan for about 3.5 GB of memory instead of 1.3 GB, and for
+     about 1.7 GB instead of 640 MB.
    - The configuration of an open cache cannot be changed. The library returns freed memory to
      malloc, and malloc decides whether to return this memory to the operating system.
    - An RRset that would use more memory than its shelf's share of `octets` is not stored. In tests,
@@ -111,16 +111,16 @@
      time of CLOCK_BOOTTIME, a clock that cannot be set and that keeps running while the machine is
      suspended. If this clock cannot be read, for example in a sandbox, 0 means the time of
      CLOCK_MONOTONIC. That clock stops while the machine is suspended, so data then expire too late,
-     by the time of the suspension.
+     by the length of the suspension.
    - A program must either pass 0 in every call, or pass timestamps from its own clock in every
      call. If a program passes 0 in some calls and timestamps from its own clock in others, data
      expire too late or too early. The program's own clock must never be set back. If this clock is
      set forward, all data suddenly become older: see "Timestamps" in rrcache_shelf.h. In two cases,
-     a program may pass other timestamps. First, a program that passes 0 may also pass seconds of
-     CLOCK_BOOTTIME, for example when it restores a dump, because 0 means the current time of the
-     same clock, if this clock can be read. Second, any program may call `rrcache_sweep_all` at the
-     timestamp 2^40 to empty the cache. `retry_from` of an answer is a timestamp of the clock that
-     the program uses.
+     a program may pass other timestamps. First, if CLOCK_BOOTTIME can be read, a program that
+     passes 0 may also pass seconds of this clock, for example when it restores a dump, because 0
+     means the current time of the same clock. Second, any program may call `rrcache_sweep_all` at
+     the timestamp 2^40 to empty the cache. `retry_from` of an answer is a timestamp of the clock
+     that the program uses.
 
    Errors
    - The header rrcache_shelf.h describes the wire form of names, the ownership of memory, and each
@@ -129,12 +129,12 @@
    - A function that fills an answer empties the answer first. On error, the answer is empty: its
      `kind` is RRCACHE_MISS, and `end` holds no name. The exception is RRCACHE_SMALL: the answer
      then contains the RRsets that fit, and `kind` and `end` are unspecified. The answer does not
-     report how large a buffer is needed: make the call again with a larger one. If the call was
+     report the required size: make the call again with a larger buffer. If the call was
      `rrcache_store`, the second call stores the response again.
    - Memory that a call reads must not overlap memory that it writes, with two exceptions. First,
-     the name of a request or of a query, and the zone of a response, may lie in the buffer of the
-     answer. Second, the name of a query and the zone of a response may also lie in `end` of the
-     answer. However, if the name of a request lies in `end`, a look-up returns RRCACHE_OVERLAP.
+     the name of a request or of a query, and the zone of a response, may be in the buffer of the
+     answer. Second, the name of a query and the zone of a response may also be in `end` of the
+     answer. However, if the name of a request is in `end`, a look-up returns RRCACHE_OVERLAP.
    - Every function that returns a status returns RRCACHE_NULL if a required pointer is null.
      RRCACHE_MEMORY means that malloc failed, RRCACHE_HISTORY_FULL that the event numbers of a shelf
      are used up, and RRCACHE_MOMENT_TOO_LARGE that a timestamp is above 2^40. The comments below do
@@ -319,7 +319,7 @@ RRCACHE_API enum rrcache_status rrcache_open(struct rrcache **cache,
                                              const struct rrcache_config *config);
 
 /* Closes a cache, and frees all its memory. If `cache` is null, the call does nothing. After the
-   call, the behavior of every call with the same pointer is undefined, even of a second
+   call, the behavior of any other call with the same pointer is undefined, even that of a second
    `rrcache_close`. */
 RRCACHE_API void rrcache_close(struct rrcache *cache);
 
@@ -327,9 +327,9 @@ RRCACHE_API void rrcache_close(struct rrcache *cache);
    begins at the name of the question, and the reply for the name at the end of the chain. This
    reply is an RRset of the question's type, a negative answer (RRCACHE_NODATA or RRCACHE_NXDOMAIN),
    or a miss (RRCACHE_MISS or RRCACHE_FAILED). Even if the reply is a miss, the answer contains the
-   CNAME RRsets. At each name of the chain, the rule described at `rrcache_ask_alias` chooses
-   between a CNAME record and data of the type (RFC 1034 section 4.3.2). For a question of type
-   CNAME, ANY, NSEC or RRSIG, no CNAME record is followed.
+   CNAME RRsets. At each name of the chain, the call chooses between a CNAME record and data of the
+   type by the rule described at `rrcache_ask_alias` (RFC 1034 section 4.3.2). For a question of
+   type CNAME, ANY, NSEC or RRSIG, no CNAME record is followed.
 
    With the mode RRCACHE_STALE_IF_FAILED, stale data are acceptable for a name of the chain if
    resolution of the type has failed recently for that name (RFC 8767 section 5). If resolution of
@@ -383,11 +383,11 @@ RRCACHE_API bool rrcache_next(const struct rrcache_answer *answer, struct rrcach
 
    Returns RRCACHE_OTHER_QUERY if the octets do not answer the query: the caller then has to drop
    these octets and keep waiting (RFC 5452 section 9.1). RRCACHE_NO_QUESTION means that the server
-   has failed. RRCACHE_BAD_MESSAGE means the same, unless TC (the bit 0x02 of the third octet) is
-   set. A call that returns one of these three errors stores nothing. A response with an RCODE other
-   than NOERROR and NXDOMAIN, such as SERVFAIL, is stored as a failure of its question if the type
-   of the question is kept. So pass a response with such an RCODE only when no other server is left
-   to query. The RCODE is in the low four bits of the fourth octet of the response. The call stores
+   has failed, and so does RRCACHE_BAD_MESSAGE, unless TC (the bit 0x02 of the third octet) is set.
+   A call that returns one of these three errors stores nothing. A response with an RCODE other than
+   NOERROR and NXDOMAIN, such as SERVFAIL, is stored as a failure of its question if the type of the
+   question is kept. So pass a response with such an RCODE only when no other server is left to
+   query. The RCODE is in the low four bits of the fourth octet of the response. The call stores
    nothing from a truncated response (TC set), and returns RRCACHE_BAD_MESSAGE if such a response
    ends inside a record. After any truncated response, send the query again over TCP.
 
@@ -426,12 +426,12 @@ RRCACHE_API bool rrcache_next(const struct rrcache_answer *answer, struct rrcach
    of any size. The limits for stored data are lower: at most 11 CNAME records are followed, and an
    RRset with more than 16,384 octets of rdata is not relevant. In `answer`, rdata of types A and
    AAAA may have any length. Each record of a type that is not kept, such as NAPTR, is returned as a
-   separate RRset. For a query of such a type, `kind` is RRCACHE_NODATA if an SOA record of the
-   response denies that data of the type exist. If the query is of type NSEC or RRSIG, and the
-   answer section has records of this type for the name of the query, `answer` contains these
-   records. No CNAME record is then followed, even if the kind of the response is
-   RRCACHE_RESPONSE_ALIAS. If only `report` contains the result, as for a negative response without
-   an SOA record, `kind` of `answer` is RRCACHE_MISS.
+   separate RRset. For a query of such a type, `kind` is RRCACHE_NODATA if the response denies, with
+   an SOA record, that data of the type exist. If the query is of type NSEC or RRSIG and the answer
+   section has records of this type for the name of the query, `answer` contains these records. No
+   CNAME record is then followed, even if the kind of the response is RRCACHE_RESPONSE_ALIAS. If
+   only `report` contains the result, as for a negative response without an SOA record, `kind` of
+   `answer` is RRCACHE_MISS.
 
    If the response contains only the beginning of a CNAME chain, the kind of the response is
    RRCACHE_RESPONSE_ALIAS, and `kind` of `answer` is RRCACHE_MISS. Keep the CNAME RRsets of this
@@ -440,7 +440,7 @@ RRCACHE_API bool rrcache_next(const struct rrcache_answer *answer, struct rrcach
 
    Check `kind` of the answer first. Check the kind of the response only if the answer is a miss,
    because records of a type that is not kept do not affect the kind of a response. If the query is
-   of such a type, and the response contains the data or denies that they exist, the kind of the
+   of such a type and the response contains the data or denies that they exist, the kind of the
    response is usually RRCACHE_RESPONSE_UNUSABLE or, if a CNAME record leads to the data,
    RRCACHE_RESPONSE_ALIAS.
 
@@ -480,8 +480,8 @@ RRCACHE_API enum rrcache_status rrcache_store_failure(struct rrcache *cache,
 
 /* Removes the cached data of a name, a class and a type: the RRset or NODATA, the failure, and the
    NXDOMAIN of the name. With type ANY (255), the call removes the data of every type. To do so, the
-   call tries each type in turn, which takes about 10 milliseconds, and releases the lock of the
-   shelf after every 256 types. Data that other threads store for the name during the call may
+   call tries each type in turn, which takes about 10 milliseconds. The call releases the lock of
+   the shelf after every 256 types. Data that other threads store for the name during the call may
    remain. If a shelf has never been swept, the first call that removes a failure from it takes as
    long as a first sweep, which visits all keys of the shelf. The fields `mode` and `takes_glue` of
    the request are ignored. No call removes the data of all names below a name: docs/RULES.md,
@@ -557,18 +557,18 @@ RRCACHE_API enum rrcache_status rrcache_record_all(struct rrcache *cache);
 RRCACHE_API enum rrcache_status rrcache_stop_recording_all(struct rrcache *cache,
                                                            rrcache_shelf_sink sink, void *state);
 
-/* Writes the contents of each shelf to `sink`, one shelf after another, in the format with which a
-   chapter (segment) of an archive begins (docs/FORMATS.md). The text of a shelf shows its contents
-   at one point in time, because other calls on the shelf wait while `rrcache_dump` lists the keys
-   of the shelf. The call allocates memory for the keys of one shelf at a time. No call reads this
-   text back into a cache. However, a caller can store each entry in a new cache, with the rank, TTL
-   and timestamp from the entry's line: shelf by shelf, and the entries of a shelf in the order of
-   their event numbers, because each shelf numbers its own events. After a restart of the machine,
-   CLOCK_BOOTTIME begins at zero again, so the caller must first convert the timestamps
-   (docs/RULES.md, "Listing and saving keys"). docs/CAPTURES.md, "A wrong answer", says what a dump
-   shows about an answer. Returns RRCACHE_HAS_CHAPTERS while histories are being recorded, and
-   RRCACHE_SINK if the sink returns nonzero. May also return RRCACHE_HISTORY_FULL or
-   RRCACHE_MEMORY. */
+/* Writes the contents of each shelf to `sink`, one shelf after another, in the same format as the
+   beginning of a chapter (segment) of an archive (docs/FORMATS.md). The text of a shelf shows its
+   contents at one point in time, because other calls on the shelf wait while `rrcache_dump` lists
+   the keys of the shelf. The call allocates memory for the keys of one shelf at a time. No call
+   reads this text back into a cache. However, a caller can store each entry in a new cache, with
+   the rank, TTL and timestamp from the entry's line. Store the entries shelf by shelf, and the
+   entries of one shelf in the order of their event numbers, because each shelf numbers its own
+   events. After a restart of the machine, CLOCK_BOOTTIME begins at zero again, so the caller must
+   first convert the timestamps (docs/RULES.md, "Listing and saving keys"). docs/CAPTURES.md, "A
+   wrong answer", says what a dump shows about an answer. Returns RRCACHE_HAS_CHAPTERS while
+   histories are being recorded, and RRCACHE_SINK if the sink returns nonzero. May also return
+   RRCACHE_HISTORY_FULL or RRCACHE_MEMORY. */
 RRCACHE_API enum rrcache_status rrcache_dump(struct rrcache *cache, rrcache_shelf_sink sink,
                                              void *state);
 
