@@ -40,7 +40,8 @@ def write_section(args, title, text, *parts):
     these parts."""
     if not args.write:
         return
-    text = f"Written by `bench/run {args.suite} --write` on a machine with {machine()}{text}"
+    text = (f"`bench/run {args.suite} --write` wrote this section on a machine with "
+            f"{machine()}{text}")
     section = "\n\n".join([f"## {title}", filled(text), *parts]) + "\n"
     before, *sections = re.split(r"^(?=## )", PAGE.read_text(), flags=re.MULTILINE)
     found = {it.split("\n", 1)[0][3:]: it.rstrip("\n") + "\n" for it in sections} | {title: section}

@@ -59,7 +59,7 @@ def main(args):
     by_python = best("ask, through Python", args.runs, partial(python_rate, args.calls // 20))
     write_section(
         args, TITLE,
-        ". The rates are the millions of calls per second that threads in C make "
+        ". The rates are in millions of calls per second, made by threads in C "
         f"(`bench/c/c_threads.c`). Each rate is the best of {args.runs} runs of {args.calls:,} "
         f"calls on 16 shelves with 16,384 names. In the rows \"{SHELVES['own']}\", each thread "
         "has 16 shelves of its own. "

@@ -25,10 +25,10 @@ OPTIONS = {"keys": (9_300, "keys of each kind"), "mebibytes": ([64, 512, 1280], 
 SET_OCTETS, MOST_KEYS = 320, 64 * 65_536
 OF_CACHES = (
     "The next table is for a `struct rrcache` with the memory limit `octets`, the default limit on "
-    "keys, and glibc's malloc. Threads stored RRsets of one address each, under four times as many "
+    "keys, and glibc's malloc. Threads stored RRsets of one address each, for four times as many "
     "names as the limits allow, so most keys were evicted. The threads also swept fully expired "
     "keys. The last three columns contain multiples of `octets`: the counted octets of the keys at "
-    "the end; the maximum memory of the process (`VmHWM`), less the memory that the process had "
+    "the end; the maximum memory of the process (`VmHWM`), minus the memory that the process had "
     "before it opened the cache; and the memory for which "
     "[SECURITY](../SECURITY.md#the-shared-cache-in-c) says to plan.")
 
@@ -94,8 +94,8 @@ def main(args):
         f". For each of {len(found['glibc']) - 1} kinds of keys, {args.keys:,} keys were offered "
         "to a shelf. While the second half of these keys was offered, the memory of the shelf was "
         "compared with the octets that `rrcache_sizes` returned. Here, the memory of the shelf is "
-        "the number of octets in use according to the allocator, minus the same number before the "
-        "shelf was made. As a multiple of the returned octets, this memory was "
+        "the number of octets in use according to the allocator, minus the number in use before "
+        "the shelf was made. As a multiple of the returned octets, this memory was "
         f"{' and '.join(said)}. Names had 3 to 255 octets, and RRsets had 1 to 200 records, each "
         "with 4 to 16,000 octets of rdata. The rdata and the owner of the SOA record of a negative "
         "answer together had 23 to 785 octets. Each kind was measured twice: on a shelf that was "
