@@ -13,13 +13,13 @@
 
 #include "rrcache.h"
 
-/* The octets of a cache line of the processor. No two places share a cache line. */
+/* The size of a cache line of the processor, in octets. No two places share a cache line. */
 enum { LINE = 64 };
 
 /* The kinds of replies, by which look-ups are counted. */
 enum { KINDS = RRCACHE_FAILED + 1 };
 
-/* A lock of a shelf, under which one thread at a time looks up in the shelf (places.h). */
+/* A lock of a shelf, under which one thread at a time looks up names in the shelf (places.h). */
 struct place {
     _Alignas(LINE) atomic_uint is_taken;
     int moves;            /* how often recent look-ups moved their entry: 0 to MOST_MOVES */
@@ -27,8 +27,8 @@ struct place {
                              look-ups, so no thread waits */
 };
 
-/* From MOVES_EXPECTED on, a look-up takes all places at once, because it probably moves its
-   entry. */
+/* If `moves` is at least MOVES_EXPECTED, a look-up takes all places at once, because it probably
+   moves its entry. */
 enum { MOVES_EXPECTED = 4, MOST_MOVES = 8 };
 
 /* A filter of the names for which a part may hold a CNAME RRset. The hash of a name gives two bits.
@@ -41,8 +41,8 @@ struct owners {
                                `late` began */
 };
 
-/* A shelf with its locks. A look-up reads the first two cache lines of the processor. A writer
-   changes the first and the last one. */
+/* A shelf with its locks. A look-up reads the first two cache lines of this struct. A writer
+   changes the first one, and those after the second. */
 struct part {
     _Alignas(LINE) atomic_uint_fast64_t turn; /* incremented when a writer begins and when it ends,
                                                  so it is odd while a writer changes the shelf, and
@@ -79,22 +79,22 @@ struct rrcache {
                             number of its slot */
 };
 
-/* Returns the timestamp of a call: `moment`, or now if that is 0. */
+/* Returns the timestamp of a call: `moment`, or the current time if `moment` is 0. */
 uint64_t moment_now(void);
 static inline uint64_t moment_of(uint64_t moment)
 {
     return moment != 0 ? moment : moment_now();
 }
 
-/* Whether there is an entry, and it is unexpired at a timestamp: if that is the earlier one, its
-   age is 0 (docs/RULES.md). */
+/* Whether there is an entry that is unexpired at a timestamp. Before the timestamp of the entry,
+   its age is 0 (docs/RULES.md). */
 static inline bool is_unexpired(const struct rrcache_entry *entry, uint64_t moment)
 {
     uint64_t age = moment > entry->moment ? moment - entry->moment : 0;
     return entry->kind != 0 && age < entry->ttl;
 }
 
-/* Make the locks of a part that is zeros, and free them. */
+/* Make the locks of a part that is all zeros, and free them. */
 bool make_locks(const struct rrcache *cache, struct part *part);
 void free_locks(struct part *part);
 
@@ -103,7 +103,7 @@ void lock_part(const struct rrcache *cache, struct part *part);
 void unlock_part(const struct rrcache *cache, struct part *part);
 
 /* Lets the threads that wait for a part take it first. A call that takes the part again and again
-   calls this function without the lock of the part. */
+   calls this function while it does not hold the lock of the part. */
 void give_way(const struct part *part);
 
 /* Evicts keys from a locked part until it meets its limit of octets, and sets `oldest_left`. Called
@@ -141,8 +141,8 @@ static inline bool may_be_alias(const struct part *part, const struct rrcache_na
    has moved to the front. */
 void note_alias(struct part *part, const struct rrcache_name *name);
 
-/* Once a locked part has evicted as many keys as it held, clears the bits of names without a CNAME
-   RRset. */
+/* Once a locked part has evicted as many keys as it held when `late` began, clears the bits that
+   have not been set since then: no name with a CNAME RRset needs them. */
 void renew_owners(struct part *part);
 
 /* What precedes the owner and the data of an RRset in the buffer of an answer. */
@@ -179,7 +179,7 @@ enum rrcache_status insert_rrset(struct rrcache_answer *answer, size_t at,
 enum { RRTYPE_CNAME = 5, RRTYPE_DNAME = 39, RRTYPE_ANY = 255 };
 
 /* How to look up the DNAME RRsets of an answer. `find` gets the DNAME RRset of a name. If the kind
-   of its reply is neither fresh nor stale, there is none. */
+   of the reply is neither fresh nor stale, there is no such RRset. */
 struct dname_search {
     enum rrcache_status (*find)(void *from, const struct rrcache_name *owner,
                                 struct rrcache_told *told, uint8_t *octets, size_t room);
@@ -189,18 +189,18 @@ struct dname_search {
     unsigned sought;  /* the number of names that were looked up */
 };
 
-/* Inserts the DNAME RRset from which a CNAME record was synthesized before that record, if `find`
-   returns it. The CNAME record is the last RRset of the answer, at the offset `at`, and `end` of
-   the answer is still its owner. */
+/* If `find` returns the DNAME RRset from which a CNAME record was synthesized, inserts this RRset
+   before the CNAME record. The CNAME record is the last RRset of the answer, at the offset `at`,
+   and `end` of the answer is still its owner. */
 enum rrcache_status put_dname(const struct rrcache *cache, struct dname_search *search,
                               struct rrcache_answer *answer, size_t at,
                               const struct rrcache_told *alias);
 
-/* Returns an upper bound of the number of offers of a response. */
+/* Returns an upper bound on the number of offers of a response. */
 size_t most_offers(const struct rrcache_response *response);
 
-/* Makes the answer that a response gives to its query, from its offers, and from its octets if the
-   offers have less than the response. May read the offers again. */
+/* Makes the answer that a response gives to its query: from its offers and, if they contain less
+   than the response, also from its octets. May read the offers again. */
 enum rrcache_status tell_answer(const struct rrcache *cache, struct rrcache_offers *offers,
                                 const struct rrcache_summary *summary,
                                 const struct rrcache_query *query,
@@ -212,15 +212,16 @@ enum rrcache_status tell_answer(const struct rrcache *cache, struct rrcache_offe
 bool is_unkept(uint16_t rtype, uint16_t rclass);
 
 /* Appends to an answer the records of a response that are not kept: those in the answer section
-   with the type of the query (any type if that is ANY) and with the name that the answer has
-   reached. Returns RRCACHE_BAD_DATA if the data of one of them cannot be read. Sets `is_whole` to
-   false if the owner of a record of such a type cannot be read: too many pointers lead to it. */
+   with the type of the query (any type if the query is for ANY) and with the name that the answer
+   has reached. Returns RRCACHE_BAD_DATA if the data of one of them cannot be read. Sets `is_whole`
+   to false if the owner of a record of such a type cannot be read because too many pointers lead to
+   it. */
 enum rrcache_status put_unkept(const struct rrcache *cache, const struct rrcache_query *query,
                                const struct rrcache_response *response, bool aa,
                                struct rrcache_answer *answer, bool *is_whole);
 
 /* Whether a name has a record of a type in the answer section or the authority section of a
-   response, even if no RRset of it is offered. */
+   response, even if no RRset of this name and type is offered. */
 bool has_record(const struct rrcache *cache, const struct rrcache_query *query,
                 const struct rrcache_response *response, enum rrcache_section section,
                 uint16_t rtype, const struct rrcache_name *name);
