@@ -1,22 +1,22 @@
 /* SPDX-License-Identifier: MIT */
-/* memos.h: answers to look-ups that readers keep, for names that are asked for again and again.
+/* memos.h: saved answers to look-ups, for names that are asked for again and again.
 
    Each reader of a cache has a table of memos. A memo is the whole answer to a question for which a
    peek found one RRset or one negative answer in a part. It also has the turn that the part had
-   then. As long as the part has the same turn, nothing has changed in the part, so it would give
-   the same reply, octet for octet. A look-up then copies the answer of the memo, and takes no
+   then. As long as the part has the same turn, nothing has changed in the part, so the part would
+   give the same reply, octet for octet. A look-up then copies the answer of the memo, and takes no
    place. If the turn has changed, or the question differs in something other than the name and the
    type, a look-up can still use the name of the memo, which is already folded and hashed. A name is
    kept only if it was asked for in lower case, so that it equals the folded name. The whole name is
    compared.
 
-   One thread at a time can take a table. Another thread that comes in the meantime does without the
-   table. A thread does not take the table either if the mark of the question is not that of the
-   memo in its slot. A memo is made for a question that was also the last question of its slot
-   without a memo, unless the memo of the slot has answered since the last time that a memo was to
-   replace it. So questions that come only once cost little and do not displace memos, and the memo
-   of a name in use stays. Marks are not secret: someone who chooses names that share a slot can
-   make memos come and go, but this costs only time. */
+   One thread at a time can take a table. A thread that finds the table taken does without it. To
+   recall a memo, a thread takes the table only if the mark of the question is that of the memo in
+   its slot. A slot remembers the last question that had no memo. If this question is asked again, a
+   memo of it is made, unless the memo in the slot has answered since the last attempt to replace
+   it. So questions that are asked only once cost little and do not displace memos, and the memo of
+   a name in use stays. Marks are not secret: someone who chooses names that share a slot can cause
+   memos to be replaced, but this costs only time. */
 #ifndef MEMOS_H
 #define MEMOS_H
 
@@ -24,11 +24,11 @@
 
 #include <string.h>
 
-/* The maximum number of octets of the name and of the answer in a memo. With these numbers, a memo
+/* The maximum sizes of the name and of the answer in a memo, in octets. With these sizes, a memo
    takes seven cache lines of the processor. */
 enum { MEMO_NAME = 95, MEMO_ANSWER = 296 };
 
-/* A turn that no part has while a reader is in it. */
+/* A turn that `turn_here` never returns. */
 enum { NO_TURN = 1 };
 
 struct memo {
@@ -39,7 +39,7 @@ struct memo {
     uint32_t mode, kind;
     uint16_t rtype, rclass, size;
     uint8_t purpose, name_size;
-    bool is_used; /* it has answered since the last time that a memo was to replace it */
+    bool is_used; /* it has answered since the last attempt to replace it */
     uint8_t name[MEMO_NAME];
     uint8_t answer[MEMO_ANSWER];
 };
@@ -102,9 +102,9 @@ static inline uint64_t mixed(uint64_t sum, uint64_t word)
     return (sum ^ word ^ sum >> 32) * UINT64_C(0x9e3779b97f4a7c15);
 }
 
-/* The mark of a name and a type, which is odd. It says which memo may have the answer, and its
-   highest bits choose the slot. The last eight octets are mixed in together, even if some of them
-   were mixed in before. */
+/* The mark of a name and a type. A mark is odd. It shows which memo may have the answer, and its
+   highest bits choose the slot. The last eight octets of the name are mixed in together, even if
+   some of them were mixed in before. */
 static inline uint32_t mark_of(const uint8_t *name, size_t size, uint16_t rtype)
 {
     uint64_t sum = (uint64_t)size << 16 | rtype, word = 0;
@@ -142,8 +142,8 @@ struct recall {
     enum recalled recalled;
 };
 
-/* Recalls what the memo with the mark of a question has for it: the answer, or only the name, in
-   `end`. */
+/* Recalls what the memo with the mark of a question has for the question: the answer, or only the
+   name (in `end`). */
 enum recalled recall_memo(const struct recall *it);
 
 static inline void recall(struct recall *it)
