@@ -6,9 +6,8 @@
    order of all operations that are memory_order_seq_cst. So at least one of the two sees the other.
    If a reader sees a writer, the reader leaves its place, so a writer waits only for readers that
    were there before it. A reader writes only to its own place, and a writer only reads places. So
-   readers do not wait for each other's cache lines of the processor, and neither do writers. A
-   reader that has waited for a place begins as a writer does, so it waits only for readers that
-   were there before it. */
+   readers do not wait for each other's cache lines of the processor. A reader that has waited for a
+   place begins as a writer does, so it waits only for readers that were there before it. */
 #ifndef PLACES_H
 #define PLACES_H
 
@@ -62,7 +61,7 @@ static inline bool try_place(struct part *part, struct place *place)
 /* Takes a place of a part once one is free and no writer has begun. */
 struct place *wait_for_place(const struct rrcache *cache, struct part *part);
 
-/* Takes the place of this thread in a part, or another one if that is taken. */
+/* Takes the place of this thread in a part, or another one if this place is taken. */
 static inline struct place *take_place(const struct rrcache *cache, struct part *part)
 {
     struct place *place = place_of(cache, part);
