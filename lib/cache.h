@@ -16,7 +16,7 @@
 /* The size of a cache line of the processor, in octets. No two places share a cache line. */
 enum { LINE = 64 };
 
-/* The kinds of replies, by which look-ups are counted. */
+/* The size of an array that has a counter for each kind of reply. */
 enum { KINDS = RRCACHE_FAILED + 1 };
 
 /* A lock of a shelf, under which one thread at a time looks up names in the shelf (places.h). */
@@ -31,22 +31,23 @@ struct place {
    moves its entry. */
 enum { MOVES_EXPECTED = 4, MOST_MOVES = 8 };
 
-/* A filter of the names for which a part may hold a CNAME RRset. The hash of a name gives two bits.
-   If one of them is clear, the name is not an alias. Both bits are set before a CNAME RRset of the
+/* A filter of the names for which a part may hold a CNAME RRset. The hash of a name determines two
+   bits. If either is clear, the name is not an alias. Both bits are set before a CNAME RRset of the
    name is stored, and when a look-up has moved that RRset to the front. */
 struct owners {
     uint64_t *all, *late;   /* the bits of all names, and those that were set since `late` began */
     uint64_t last;          /* the number of the last bit, which is a power of two minus 1 */
-    uint64_t keys, evicted; /* the keys that the part held, and those that it had evicted, when
-                               `late` began */
+    uint64_t keys, evicted; /* how many keys the part held, and how many it had evicted, when `late`
+                               began */
 };
 
 /* A shelf with its locks. A look-up reads the first two cache lines of this struct. A writer
    changes the first one, and those after the second. */
 struct part {
     _Alignas(LINE) atomic_uint_fast64_t turn; /* incremented when a writer begins and when it ends,
-                                                 so it is odd while a writer changes the shelf, and
-                                                 while a reader waits alone (places.c) */
+                                                 so it is odd while a writer changes the shelf. It
+                                                 is also odd while a reader waits alone
+                                                 (places.c) */
     struct rrcache_shelf shelf;
     uint64_t oldest_left; /* a look-up does not move an entry whose age is at most this */
     bool is_recorded;
@@ -111,7 +112,7 @@ void give_way(const struct part *part);
    evicts the rest. */
 void settle(const struct rrcache *cache, struct part *part, uint64_t moment);
 
-/* Return the number of words of each of the two bit sets of a part, and set where they are. */
+/* Return the number of words of each of the two bit sets of a part, and set where the sets are. */
 uint64_t owner_words(const struct rrcache *cache);
 void place_owners(struct part *part, uint64_t *words, uint64_t count);
 

@@ -59,8 +59,8 @@ struct memos {
                                             of their replies */
 };
 
-/* Return the octets that the memos of a cache take, and set where the memos are. A cache with too
-   little room has none. */
+/* Return the number of octets that the memos of a cache take, and set where the memos are. A cache
+   with too little room has none. */
 size_t memo_octets(const struct rrcache *cache);
 void place_memos(struct rrcache *cache, void *octets);
 
@@ -130,7 +130,7 @@ static inline bool may_be_kept(const struct rrcache *cache, const struct rrcache
            && !rrcache_overlap(&answer->end, sizeof answer->end, request->name, request->name_size);
 }
 
-/* What a look-up knows about memos. */
+/* What a look-up uses to recall and keep a memo. */
 struct recall {
     const struct rrcache *cache;
     const struct rrcache_request *request;
@@ -160,12 +160,13 @@ static inline void recall(struct recall *it)
         it->recalled = recall_memo(it);
 }
 
-/* Writes a memo of an answer that one part gave in a turn, if a memo has room for the answer. */
+/* Writes a memo of an answer that one part gave in a turn, if a memo has room for the answer and
+   the rules above allow it. */
 void write_memo(const struct recall *it, uint64_t turn);
 
 /* Keeps an answer that one part gave in a turn, if the name was recalled, or if the question was
-   the last one of its slot that had no memo. Otherwise the question is now the last one that had no
-   memo. */
+   the last one of its slot that had no memo. Otherwise, the question becomes the last one that had
+   no memo. */
 static inline void keep(const struct recall *it, uint64_t turn)
 {
     if (it->recalled == NOTHING
