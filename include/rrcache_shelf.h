@@ -137,9 +137,9 @@
    - A resolver that parses responses itself passes the parsed RRsets, with their sections, to
      `rrcache_compose_response`. This function writes the RRsets as a message, which the resolver
      then passes to `rrcache_read_response` like any other message.
-   - A function whose name ends in `_unchecked` extracts all data of a message that are in
-     bailiwick, and does not compare the message with a query. Before calling such a function, the
-     caller must check the addresses and ports, the identifier and the question of the message.
+   - A function whose name ends in `_unchecked` extracts all in-bailiwick data from a message, and
+     does not compare the message with a query. Before calling such a function, the caller must
+     check the addresses and ports, the identifier and the question of the message.
    - A message is truncated if TC (the bit 0x02 of the third octet) is set. Nothing from a truncated
      message is offered (RFC 2181 section 9). If such a message can be read, the call that reads it
      returns RRCACHE_DONE, all fields of `counts` are 0, no event is written, and
