@@ -3,5 +3,3 @@ pub mod Sealed
 pub mod Boxed
 pub mod Handles
 pub mod Looked
-pub mod HeldOffers
-pub mod HeldChapters

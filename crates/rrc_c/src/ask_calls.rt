@@ -1,12 +1,14 @@
 // SPDX-License-Identifier: MIT
-ghost use Rattle.std.specs.Prelude.{◌≡◌, length, IfSome};
+ghost use Rattle.std.specs.Prelude.{◌≡◌, ◌↔◌, length, None, IfSome, IsSomeAnd};
 ghost use Rattle.rrc_shelf.specs.Statuses.{number_of_reply, OnDone, OnRefused, OnSmall, OnUntold};
-ghost use Rattle.rrc_c.specs.Handles.{BothHold, IsKept, TellsNone};
+ghost use Rattle.rrc_c.specs.Handles.{BothHold, BothOrNone};
+ghost use Rattle.rrc_c.specs.declared.handle_status.TheConstants.{NO_SHELF};
+ghost use Rattle.rrc_shelf.specs.Shelves.{IsLeftAs};
 ghost use Rattle.rrc_shelf.specs.Aliases.{ask_or_alias};
-ghost use Rattle.rrc_shelf.specs.Asks.{asked, Answers, Shows, TellsSizeAlone};
+ghost use Rattle.rrc_shelf.specs.Asks.{asked, Answers, TellsReply, TellsSizeOf};
 ghost use Rattle.rrc_shelf.specs.Checks.{Passes};
 ghost use Rattle.rrc_shelf.specs.Refusals.{AskDue, PeekDue, StoredDue, question_checks};
-ghost use Rattle.rrc_shelf.specs.Stored.{TellsStored};
+ghost use Rattle.rrc_shelf.specs.Stored.{TellsHeld};
 
 use crate::handle_status::NO_SHELF;
 use crate::look::ShelfLook;
@@ -27,10 +29,10 @@ pub extern "C" fn rrc_ask(
     told: &mut ReplyRecord,
     buffer: &mut [u8],
 ) -> u32
-    ensures none { TellsNone handle.old.held.seal.shelf result }
+    ensures none { (result ≡ NO_SHELF) ↔ (handle.old.held.seal.shelf ≡ None) }
     ensures done { OnDone result (BothHold handle.old.held.seal.shelf handle.new.held.seal.shelf (λ old new. Answers (asked name.now question.now) question.now.line told.new buffer.old buffer.new old new)) }
-    ensures small { OnSmall result (BothHold handle.old.held.seal.shelf handle.new.held.seal.shelf (λ old new. TellsSizeAlone (asked name.now question.now) told.new buffer.old buffer.new old new)) }
-    ensures refused { OnRefused result (IsKept handle.old.held.seal.shelf handle.new.held.seal.shelf) }
+    ensures small { OnSmall result (BothHold handle.old.held.seal.shelf handle.new.held.seal.shelf (λ old new. (new ≡ old) × TellsSizeOf (asked name.now question.now) old told.new buffer.old buffer.new)) }
+    ensures refused { OnRefused result (BothOrNone handle.old.held.seal.shelf handle.new.held.seal.shelf IsLeftAs) }
     ensures buffer { OnRefused result (buffer.new ≡ buffer.old) }
     ensures told { OnUntold result (told.new ≡ told.old) }
     ensures seed { handle.new.seed ≡ handle.old.seed }
@@ -56,10 +58,10 @@ pub extern "C" fn rrc_ask_alias(
     told: &mut ReplyRecord,
     buffer: &mut [u8],
 ) -> u32
-    ensures none { TellsNone handle.old.held.seal.shelf result }
+    ensures none { (result ≡ NO_SHELF) ↔ (handle.old.held.seal.shelf ≡ None) }
     ensures done { OnDone result (BothHold handle.old.held.seal.shelf handle.new.held.seal.shelf (λ old new. Answers (ask_or_alias old (asked name.now question.now)) question.now.line told.new buffer.old buffer.new old new)) }
-    ensures small { OnSmall result (BothHold handle.old.held.seal.shelf handle.new.held.seal.shelf (λ old new. TellsSizeAlone (ask_or_alias old (asked name.now question.now)) told.new buffer.old buffer.new old new)) }
-    ensures refused { OnRefused result (IsKept handle.old.held.seal.shelf handle.new.held.seal.shelf) }
+    ensures small { OnSmall result (BothHold handle.old.held.seal.shelf handle.new.held.seal.shelf (λ old new. (new ≡ old) × TellsSizeOf (ask_or_alias old (asked name.now question.now)) old told.new buffer.old buffer.new)) }
+    ensures refused { OnRefused result (BothOrNone handle.old.held.seal.shelf handle.new.held.seal.shelf IsLeftAs) }
     ensures buffer { OnRefused result (buffer.new ≡ buffer.old) }
     ensures told { OnUntold result (told.new ≡ told.old) }
     ensures seed { handle.new.seed ≡ handle.old.seed }
@@ -85,9 +87,9 @@ pub extern "C" fn rrc_peek(
 ) -> u32
     ensures kept { look.new.look.sight.shelf ≡ look.old.look.sight.shelf }
     ensures life { look.new.look.sight.life ≡ look.old.look.sight.life }
-    ensures none { TellsNone look.old.look.sight.shelf result }
-    ensures done { OnDone result (BothHold look.old.look.sight.shelf look.new.look.sight.shelf (λ old new. Shows (asked name.now question.now) told.new buffer.old buffer.new old new)) }
-    ensures small { OnSmall result (BothHold look.old.look.sight.shelf look.new.look.sight.shelf (λ old new. TellsSizeAlone (asked name.now question.now) told.new buffer.old buffer.new old new)) }
+    ensures none { (result ≡ NO_SHELF) ↔ (look.old.look.sight.shelf ≡ None) }
+    ensures done { OnDone result (IsSomeAnd look.old.look.sight.shelf (λ shelf. TellsReply (asked name.now question.now) shelf told.new buffer.old buffer.new)) }
+    ensures small { OnSmall result (IsSomeAnd look.old.look.sight.shelf (λ shelf. TellsSizeOf (asked name.now question.now) shelf told.new buffer.old buffer.new)) }
     ensures buffer { OnRefused result (buffer.new ≡ buffer.old) }
     ensures told { OnUntold result (told.new ≡ told.old) }
     ensures fit { OnDone result (Passes (question_checks name.now question.now look.old.seed)) }
@@ -113,9 +115,9 @@ pub extern "C" fn rrc_peek_alias(
 ) -> u32
     ensures kept { look.new.look.sight.shelf ≡ look.old.look.sight.shelf }
     ensures life { look.new.look.sight.life ≡ look.old.look.sight.life }
-    ensures none { TellsNone look.old.look.sight.shelf result }
-    ensures done { OnDone result (BothHold look.old.look.sight.shelf look.new.look.sight.shelf (λ old new. Shows (ask_or_alias old (asked name.now question.now)) told.new buffer.old buffer.new old new)) }
-    ensures small { OnSmall result (BothHold look.old.look.sight.shelf look.new.look.sight.shelf (λ old new. TellsSizeAlone (ask_or_alias old (asked name.now question.now)) told.new buffer.old buffer.new old new)) }
+    ensures none { (result ≡ NO_SHELF) ↔ (look.old.look.sight.shelf ≡ None) }
+    ensures done { OnDone result (IsSomeAnd look.old.look.sight.shelf (λ shelf. TellsReply (ask_or_alias shelf (asked name.now question.now)) shelf told.new buffer.old buffer.new)) }
+    ensures small { OnSmall result (IsSomeAnd look.old.look.sight.shelf (λ shelf. TellsSizeOf (ask_or_alias shelf (asked name.now question.now)) shelf told.new buffer.old buffer.new)) }
     ensures buffer { OnRefused result (buffer.new ≡ buffer.old) }
     ensures told { OnUntold result (told.new ≡ told.old) }
     ensures fit { OnDone result (Passes (question_checks name.now question.now look.old.seed)) }
@@ -141,8 +143,8 @@ pub extern "C" fn rrc_stored(
 ) -> u32
     ensures kept { look.new.look.sight.shelf ≡ look.old.look.sight.shelf }
     ensures life { look.new.look.sight.life ≡ look.old.look.sight.life }
-    ensures none { TellsNone look.old.look.sight.shelf result }
-    ensures done { OnDone result (BothHold look.old.look.sight.shelf look.new.look.sight.shelf (TellsStored name.now question.now stored.new)) }
+    ensures none { (result ≡ NO_SHELF) ↔ (look.old.look.sight.shelf ≡ None) }
+    ensures done { OnDone result (IsSomeAnd look.old.look.sight.shelf (TellsHeld name.now question.now stored.new)) }
     ensures stored { OnRefused result (stored.new ≡ stored.old) }
     ensures due { IfSome look.old.look.sight.shelf (λ shelf. StoredDue name.now question.now look.old.seed result) }
 {

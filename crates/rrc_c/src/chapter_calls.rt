@@ -1,9 +1,10 @@
 // SPDX-License-Identifier: MIT
-ghost use Rattle.std.specs.Prelude.{◌≡◌, None, Some, IfOk, OnErr, length, IsSomeAnd, IfSome};
-ghost use Rattle.rrc_shelf.specs.Chapters.{LineDue, StopsRecord, TakesClosed, TellsLine};
-ghost use Rattle.rrc_c.specs.Handles.{BothHold, TellsNone};
+ghost use Rattle.std.specs.Prelude.{◌≡◌, ◌↔◌, None, Some, IfNone, IfOk, OnErr, OnSome, length, IsSomeAnd, IfSome};
+ghost use Rattle.rrc_shelf.specs.Chapters.{LineDue, StopDue, StopsRecord, TakesClosed, TellsLine};
+ghost use Rattle.rrc_c.specs.Handles.{BothHold};
+ghost use Rattle.rrc_shelf.specs.Checks.{IsDoneOrMemory};
 ghost use Rattle.rrc_shelf.specs.Statuses.{number_of_call, OnDone, OnRefused};
-ghost use Rattle.rrc_c.specs.HeldChapters.{StoppingDue, TakingDue, TellsNoChapters};
+ghost use Rattle.rrc_c.specs.declared.handle_status.TheConstants.{HAS_CHAPTERS, NO_CHAPTERS, NO_SHELF};
 
 use crate::chapters::Chapters;
 use crate::handle_status::{HAS_CHAPTERS, NO_CHAPTERS, NO_SHELF};
@@ -14,7 +15,7 @@ use std::alloc::Global;
 /// Puts chapters that were taken into a handle, in the place of none, and tells how many they are.
 fn hold(taken: Result<Box<Taken>, Status>, chapters: &mut Chapters, count: &mut u64) -> u32
     ensures value { result ≡ number_of_call taken }
-    ensures shelf { result ≡ 1 → ⊥ }
+    ensures shelf { result ≡ NO_SHELF → ⊥ }
     ensures held { IfOk taken (λ taken. chapters.new.seal.chapters ≡ Some taken.value) }
     ensures count { IfOk taken (λ taken. count.new ≡ length taken.value) }
     ensures kept { OnErr taken (chapters.new.seal.chapters ≡ chapters.old.seal.chapters) }
@@ -38,8 +39,9 @@ pub extern "C" fn rrc_take_chapters(
     chapters: &mut Chapters,
     count: &mut u64,
 ) -> u32
-    ensures none { TellsNone handle.old.held.seal.shelf result }
-    ensures due { IfSome handle.old.held.seal.shelf (λ shelf. TakingDue chapters.old.seal.chapters result) }
+    ensures none { (result ≡ NO_SHELF) ↔ (handle.old.held.seal.shelf ≡ None) }
+    ensures has { OnSome handle.old.held.seal.shelf (OnSome chapters.old.seal.chapters (result ≡ HAS_CHAPTERS)) }
+    ensures due { OnSome handle.old.held.seal.shelf (IfNone chapters.old.seal.chapters (IsDoneOrMemory result)) }
     ensures done { OnDone result (IsSomeAnd chapters.new.seal.chapters (λ held. BothHold handle.old.held.seal.shelf handle.new.held.seal.shelf (TakesClosed held))) }
     ensures count { OnDone result (IsSomeAnd chapters.new.seal.chapters (λ held. count.new ≡ length held)) }
     ensures refused { OnRefused result (handle.new.held.seal.shelf ≡ handle.old.held.seal.shelf) }
@@ -66,8 +68,9 @@ pub extern "C" fn rrc_stop_recording(
     chapters: &mut Chapters,
     count: &mut u64,
 ) -> u32
-    ensures none { TellsNone handle.old.held.seal.shelf result }
-    ensures due { IfSome handle.old.held.seal.shelf (λ shelf. StoppingDue chapters.old.seal.chapters shelf result) }
+    ensures none { (result ≡ NO_SHELF) ↔ (handle.old.held.seal.shelf ≡ None) }
+    ensures has { OnSome handle.old.held.seal.shelf (OnSome chapters.old.seal.chapters (result ≡ HAS_CHAPTERS)) }
+    ensures due { IfSome handle.old.held.seal.shelf (λ shelf. IfNone chapters.old.seal.chapters (StopDue shelf result)) }
     ensures done { OnDone result (IsSomeAnd chapters.new.seal.chapters (λ held. BothHold handle.old.held.seal.shelf handle.new.held.seal.shelf (StopsRecord held))) }
     ensures count { OnDone result (IsSomeAnd chapters.new.seal.chapters (λ held. count.new ≡ length held)) }
     ensures refused { OnRefused result (handle.new.held.seal.shelf ≡ handle.old.held.seal.shelf) }
@@ -96,7 +99,7 @@ pub extern "C" fn rrc_chapter_line(
     buffer: &mut [u8],
     told: &mut Line,
 ) -> u32
-    ensures none { TellsNoChapters chapters.old.seal.chapters result }
+    ensures none { (result ≡ NO_CHAPTERS) ↔ (chapters.old.seal.chapters ≡ None) }
     ensures due { IfSome chapters.old.seal.chapters (λ held. LineDue held place.now result) }
     ensures done { OnDone result (IsSomeAnd chapters.old.seal.chapters (λ held. TellsLine held place.now told.new buffer.old buffer.new)) }
     ensures told { OnRefused result (told.new ≡ told.old) }
@@ -113,7 +116,7 @@ pub extern "C" fn rrc_chapter_line(
 #[unsafe(no_mangle)]
 pub extern "C" fn rrc_free_chapters(alloc: Global, chapters: &mut Chapters) -> u32
     ensures left { chapters.new.seal.chapters ≡ None }
-    ensures none { TellsNoChapters chapters.old.seal.chapters result }
+    ensures none { (result ≡ NO_CHAPTERS) ↔ (chapters.old.seal.chapters ≡ None) }
     ensures status { OnRefused result (chapters.old.seal.chapters ≡ None) }
 {
     match chapters.boxed().take(alloc) {

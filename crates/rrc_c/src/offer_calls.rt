@@ -1,7 +1,9 @@
 // SPDX-License-Identifier: MIT
-ghost use Rattle.std.specs.Prelude.{◌≡◌, ◌⊎◌, IfSome};
+ghost use Rattle.std.specs.Prelude.{◌≡◌, ◌↔◌, None, IfSome};
 ghost use Rattle.rrc_shelf.specs.Statuses.{number_of_call, OnDone, OnRefused};
-ghost use Rattle.rrc_c.specs.Handles.{OnNoShelf, BothHold, HoldsNone, IsKept, TellsNone};
+ghost use Rattle.rrc_c.specs.Handles.{BothHold, BothOrNone};
+ghost use Rattle.rrc_c.specs.declared.handle_status.TheConstants.{NO_SHELF};
+ghost use Rattle.rrc_shelf.specs.Shelves.{IsLeftAs};
 ghost use Rattle.rrc_shelf.specs.Intake.{denial_offer, failure_offer, whole, TakesMessage, TakesOne, TakesSet, TakesSome};
 ghost use Rattle.rrc_shelf.specs.Checks.{Due, Passes};
 ghost use Rattle.rrc_shelf.specs.PartIntake.{own_share, part_checks};
@@ -25,10 +27,10 @@ pub extern "C" fn rrc_offer_message_unchecked(
     terms: &ResponseTerms,
     counts: &mut Counts,
 ) -> u32
-    ensures none { TellsNone handle.old.held.seal.shelf result }
+    ensures none { (result ≡ NO_SHELF) ↔ (handle.old.held.seal.shelf ≡ None) }
     ensures done { OnDone result (BothHold handle.old.held.seal.shelf handle.new.held.seal.shelf (TakesMessage whole octets.now zone.now terms.now counts.new)) }
-    ensures refused { OnRefused result (HoldsNone handle.old.held.seal.shelf handle.new.held.seal.shelf ⊎ BothHold handle.old.held.seal.shelf handle.new.held.seal.shelf (TakesSome (message_checks octets.now zone.now terms.now.limits) whole result octets.now zone.now terms.now counts.new)) }
-    ensures counts { OnNoShelf result (counts.new ≡ counts.old) }
+    ensures refused { OnRefused result (BothOrNone handle.old.held.seal.shelf handle.new.held.seal.shelf (TakesSome (message_checks octets.now zone.now terms.now.limits) whole result octets.now zone.now terms.now counts.new)) }
+    ensures counts { result ≡ NO_SHELF → counts.new ≡ counts.old }
     ensures seed { handle.new.seed ≡ handle.old.seed }
 {
     let Some(shelf) = handle.held.get_mut() else {
@@ -49,11 +51,11 @@ pub extern "C" fn rrc_offer_part_unchecked(
     terms: &ResponseTerms,
     counts: &mut Counts,
 ) -> u32
-    ensures none { TellsNone handle.old.held.seal.shelf result }
+    ensures none { (result ≡ NO_SHELF) ↔ (handle.old.held.seal.shelf ≡ None) }
     ensures done { OnDone result (BothHold handle.old.held.seal.shelf handle.new.held.seal.shelf (TakesMessage (own_share terms.now) octets.now zone.now terms.now counts.new)) }
     ensures fit { OnDone result (Passes (part_checks octets.now zone.now terms.now handle.old.seed)) }
-    ensures refused { OnRefused result (HoldsNone handle.old.held.seal.shelf handle.new.held.seal.shelf ⊎ BothHold handle.old.held.seal.shelf handle.new.held.seal.shelf (TakesSome (part_checks octets.now zone.now terms.now handle.old.seed) (own_share terms.now) result octets.now zone.now terms.now counts.new)) }
-    ensures counts { OnNoShelf result (counts.new ≡ counts.old) }
+    ensures refused { OnRefused result (BothOrNone handle.old.held.seal.shelf handle.new.held.seal.shelf (TakesSome (part_checks octets.now zone.now terms.now handle.old.seed) (own_share terms.now) result octets.now zone.now terms.now counts.new)) }
+    ensures counts { result ≡ NO_SHELF → counts.new ≡ counts.old }
     ensures seed { handle.new.seed ≡ handle.old.seed }
 {
     let seed = handle.seed;
@@ -74,9 +76,9 @@ pub extern "C" fn rrc_offer_set(
     octets: &[u8],
     outcome: &mut u32,
 ) -> u32
-    ensures none { TellsNone handle.old.held.seal.shelf result }
+    ensures none { (result ≡ NO_SHELF) ↔ (handle.old.held.seal.shelf ≡ None) }
     ensures done { OnDone result (BothHold handle.old.held.seal.shelf handle.new.held.seal.shelf (TakesSet owner.now set.now octets.now outcome.new)) }
-    ensures refused { OnRefused result (IsKept handle.old.held.seal.shelf handle.new.held.seal.shelf) }
+    ensures refused { OnRefused result (BothOrNone handle.old.held.seal.shelf handle.new.held.seal.shelf IsLeftAs) }
     ensures outcome { OnRefused result (outcome.new ≡ outcome.old) }
     ensures seed { handle.new.seed ≡ handle.old.seed }
     ensures fit { OnDone result (Passes (set_checks owner.now set.now octets.now)) }
@@ -100,9 +102,9 @@ pub extern "C" fn rrc_offer_negative(
     soa: &[u8],
     outcome: &mut u32,
 ) -> u32
-    ensures none { TellsNone handle.old.held.seal.shelf result }
+    ensures none { (result ≡ NO_SHELF) ↔ (handle.old.held.seal.shelf ≡ None) }
     ensures done { OnDone result (BothHold handle.old.held.seal.shelf handle.new.held.seal.shelf (TakesOne negative.now.line (denial_offer name.now negative.now soa_owner.now soa.now) outcome.new)) }
-    ensures refused { OnRefused result (IsKept handle.old.held.seal.shelf handle.new.held.seal.shelf) }
+    ensures refused { OnRefused result (BothOrNone handle.old.held.seal.shelf handle.new.held.seal.shelf IsLeftAs) }
     ensures outcome { OnRefused result (outcome.new ≡ outcome.old) }
     ensures seed { handle.new.seed ≡ handle.old.seed }
     ensures fit { OnDone result (Passes (denial_checks name.now negative.now soa_owner.now soa.now)) }
@@ -124,9 +126,9 @@ pub extern "C" fn rrc_offer_failure(
     failure: &FailureTerms,
     outcome: &mut u32,
 ) -> u32
-    ensures none { TellsNone handle.old.held.seal.shelf result }
+    ensures none { (result ≡ NO_SHELF) ↔ (handle.old.held.seal.shelf ≡ None) }
     ensures done { OnDone result (BothHold handle.old.held.seal.shelf handle.new.held.seal.shelf (TakesOne failure.now.line (failure_offer name.now failure.now) outcome.new)) }
-    ensures refused { OnRefused result (IsKept handle.old.held.seal.shelf handle.new.held.seal.shelf) }
+    ensures refused { OnRefused result (BothOrNone handle.old.held.seal.shelf handle.new.held.seal.shelf IsLeftAs) }
     ensures outcome { OnRefused result (outcome.new ≡ outcome.old) }
     ensures seed { handle.new.seed ≡ handle.old.seed }
     ensures fit { OnDone result (Passes (failure_checks name.now failure.now)) }

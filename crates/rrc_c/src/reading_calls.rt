@@ -1,13 +1,16 @@
 // SPDX-License-Identifier: MIT
-ghost use Rattle.std.specs.Prelude.{◌≡◌, ◌⊎◌, drop, length, None, true, false, IfSome, IsSomeAnd};
+ghost use Rattle.std.specs.Prelude.{◌≡◌, ◌⊎◌, ◌↔◌, drop, length, None, true, false, IfNone, IfSome, IsSomeAnd, OnSome};
+ghost use Rattle.std.specs.Option.{option_and_then};
 ghost use Rattle.rrc_shelf.specs.Offered.{offer_in, OfferDue, OneDue, TakesOffer, TellsOfferOr};
-ghost use Rattle.rrc_c.specs.Handles.{IsKept, TellsNone, OnNoShelf, BothHold};
-ghost use Rattle.rrc_shelf.specs.Checks.{Passes};
-ghost use Rattle.rrc_shelf.specs.Readings.{parts_below, share_checks, IsReading, TakesShare, TakesSomeOfShare};
-ghost use Rattle.rrc_shelf.specs.Responses.{IsResponseReading};
+ghost use Rattle.rrc_c.specs.Handles.{BothHold, BothOrNone};
+ghost use Rattle.rrc_shelf.specs.Checks.{Passes, Refuses};
+ghost use Rattle.rrc_shelf.specs.Readings.{parts_below, reading_checks, share_checks, IsReading, TakesShare, TakesSomeOfShare};
+ghost use Rattle.rrc_shelf.specs.Responses.{IsOtherAtLast, IsResponseReading, ResponseRefused};
 ghost use Rattle.rrc_shelf.specs.Summaries.{SummaryDue, TellsSummary};
 ghost use Rattle.rrc_shelf.specs.Statuses.{OnDone, OnRefused, OnSmall, OnUntold};
-ghost use Rattle.rrc_c.specs.HeldOffers.{TellsNoSuchOffer, OneLacks, ReadingDue, TellsNoOffers, ResponseDue, OnNoOffers};
+ghost use Rattle.rrc_c.specs.declared.handle_status.TheConstants.{HAS_OFFERS, NO_SHELF, OTHER_QUERY};
+ghost use Rattle.rrc_shelf.specs.declared.status.TheConstants.{NO_OFFERS};
+ghost use Rattle.rrc_shelf.specs.Shelves.{IsLeftAs};
 
 use crate::handle_status::{HAS_OFFERS, NO_SHELF, OTHER_QUERY};
 use crate::offers::Offers;
@@ -30,7 +33,8 @@ pub extern "C" fn rrc_read_message_unchecked(
     terms: &ResponseTerms,
     concerned: &mut u64,
 ) -> u32
-    ensures due { ReadingDue octets.now zone.now terms.now offers.old.seal.reading result }
+    ensures has { OnSome offers.old.seal.reading (result ≡ HAS_OFFERS) }
+    ensures due { IfNone offers.old.seal.reading ((result ≡ 0) ⊎ Refuses (reading_checks octets.now zone.now terms.now) result) }
     ensures done { OnDone result (IsSomeAnd offers.new.seal.reading (IsReading octets.now zone.now terms.now)) }
     ensures concerned { OnDone result (IsSomeAnd offers.new.seal.reading (λ reading. concerned.new ≡ parts_below reading.placed.items terms.now.parts.count)) }
     ensures refused { OnRefused result (offers.new.seal.reading ≡ offers.old.seal.reading) }
@@ -61,7 +65,8 @@ pub extern "C" fn rrc_read_response(
     terms: &ResponseTerms,
     concerned: &mut u64,
 ) -> u32
-    ensures due { ResponseDue octets.now zone.now name.now terms.now offers.old.seal.reading result }
+    ensures has { OnSome offers.old.seal.reading (result ≡ HAS_OFFERS) }
+    ensures due { IfNone offers.old.seal.reading ((result ≡ 0) ⊎ (((result ≡ OTHER_QUERY) × IsOtherAtLast octets.now zone.now name.now terms.now) ⊎ ResponseRefused octets.now zone.now name.now terms.now result)) }
     ensures done { OnDone result (IsSomeAnd offers.new.seal.reading (IsResponseReading octets.now zone.now name.now terms.now)) }
     ensures concerned { OnDone result (IsSomeAnd offers.new.seal.reading (λ reading. concerned.new ≡ parts_below reading.placed.items terms.now.parts.count)) }
     ensures refused { OnRefused result (offers.new.seal.reading ≡ offers.old.seal.reading) }
@@ -90,7 +95,7 @@ pub extern "C" fn rrc_tell_response(
     name: &mut FoldedName,
     told: &mut SummaryRecord,
 ) -> u32
-    ensures none { TellsNoOffers offers.old.seal.reading result }
+    ensures none { (result ≡ NO_OFFERS) ↔ (offers.old.seal.reading ≡ None) }
     ensures done { OnDone result (IsSomeAnd offers.old.seal.reading (λ reading. TellsSummary reading told.new name.old name.new)) }
     ensures name { OnRefused result (name.new ≡ name.old) }
     ensures behind { drop name.new.size name.new.octets ≡ drop name.new.size name.old.octets }
@@ -114,7 +119,7 @@ pub extern "C" fn rrc_tell_offer(
     told: &mut ReplyRecord,
     buffer: &mut [u8],
 ) -> u32
-    ensures none { TellsNoSuchOffer offers.old.seal.reading index result }
+    ensures none { (result ≡ NO_OFFERS) ↔ (option_and_then (λ reading. offer_in reading index) offers.old.seal.reading ≡ None) }
     ensures done { OnDone result (IsSomeAnd offers.old.seal.reading (λ reading. IsSomeAnd (offer_in reading index) (λ offer. TellsOfferOr true reading offer name.new told.new buffer.old buffer.new))) }
     ensures small { OnSmall result (IsSomeAnd offers.old.seal.reading (λ reading. IsSomeAnd (offer_in reading index) (λ offer. TellsOfferOr false reading offer name.new told.new buffer.old buffer.new))) }
     ensures name { OnUntold result (name.new ≡ name.old) }
@@ -139,13 +144,14 @@ pub extern "C" fn rrc_offer_read(
     share: &Share,
     counts: &mut Counts,
 ) -> u32
-    ensures none { TellsNone handle.old.held.seal.shelf result }
-    ensures no_offers { IfSome handle.old.held.seal.shelf (λ shelf. TellsNoOffers offers.old.seal.reading result) }
+    ensures none { (result ≡ NO_SHELF) ↔ (handle.old.held.seal.shelf ≡ None) }
+    ensures no_offers { IfSome handle.old.held.seal.shelf (λ shelf. (result ≡ NO_OFFERS) ↔ (offers.old.seal.reading ≡ None)) }
     ensures done { OnDone result (IsSomeAnd offers.old.seal.reading (λ reading. BothHold handle.old.held.seal.shelf handle.new.held.seal.shelf (TakesShare share.now counts.new reading))) }
     ensures fit { OnDone result (IsSomeAnd offers.old.seal.reading (λ reading. Passes (share_checks share.now.part reading handle.old.seed))) }
-    ensures refused { OnRefused result (OneLacks offers.old.seal.reading handle.old.held.seal.shelf handle.new.held.seal.shelf ⊎ IsSomeAnd offers.old.seal.reading (λ reading. BothHold handle.old.held.seal.shelf handle.new.held.seal.shelf (TakesSomeOfShare result share.now handle.old.seed counts.new reading))) }
-    ensures counts { OnNoShelf result (counts.new ≡ counts.old) }
-    ensures uncounted { OnNoOffers result (counts.new ≡ counts.old) }
+    ensures unread { IfNone offers.old.seal.reading (handle.new.held.seal.shelf ≡ handle.old.held.seal.shelf) }
+    ensures refused { OnRefused result (IfSome offers.old.seal.reading (λ reading. BothOrNone handle.old.held.seal.shelf handle.new.held.seal.shelf (TakesSomeOfShare result share.now handle.old.seed counts.new reading))) }
+    ensures counts { result ≡ NO_SHELF → counts.new ≡ counts.old }
+    ensures uncounted { result ≡ NO_OFFERS → counts.new ≡ counts.old }
     ensures kept { offers.new.seal.reading ≡ offers.old.seal.reading }
     ensures seed { handle.new.seed ≡ handle.old.seed }
 {
@@ -168,10 +174,10 @@ pub extern "C" fn rrc_offer_one(
     pick: &OfferPick,
     outcome: &mut u32,
 ) -> u32
-    ensures none { TellsNone handle.old.held.seal.shelf result }
-    ensures no_offer { IfSome handle.old.held.seal.shelf (λ shelf. TellsNoSuchOffer offers.old.seal.reading pick.now.index result) }
+    ensures none { (result ≡ NO_SHELF) ↔ (handle.old.held.seal.shelf ≡ None) }
+    ensures no_offer { IfSome handle.old.held.seal.shelf (λ shelf. (result ≡ NO_OFFERS) ↔ (option_and_then (λ reading. offer_in reading pick.now.index) offers.old.seal.reading ≡ None)) }
     ensures done { OnDone result (IsSomeAnd offers.old.seal.reading (λ reading. BothHold handle.old.held.seal.shelf handle.new.held.seal.shelf (λ old new. IsSomeAnd (offer_in reading pick.now.index) (λ offer. TakesOffer pick.now.line reading offer handle.old.seed outcome.new old new)))) }
-    ensures refused { OnRefused result (IsKept handle.old.held.seal.shelf handle.new.held.seal.shelf) }
+    ensures refused { OnRefused result (BothOrNone handle.old.held.seal.shelf handle.new.held.seal.shelf IsLeftAs) }
     ensures outcome { OnRefused result (outcome.new ≡ outcome.old) }
     ensures kept { offers.new.seal.reading ≡ offers.old.seal.reading }
     ensures seed { handle.new.seed ≡ handle.old.seed }
@@ -191,7 +197,7 @@ pub extern "C" fn rrc_offer_one(
 #[unsafe(no_mangle)]
 pub extern "C" fn rrc_free_offers(alloc: Global, offers: &mut Offers) -> u32
     ensures left { offers.new.seal.reading ≡ None }
-    ensures none { TellsNoOffers offers.old.seal.reading result }
+    ensures none { (result ≡ NO_OFFERS) ↔ (offers.old.seal.reading ≡ None) }
     ensures status { OnRefused result (offers.old.seal.reading ≡ None) }
 {
     match offers.boxed().take(alloc) {

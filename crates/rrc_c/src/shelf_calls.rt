@@ -1,7 +1,9 @@
 // SPDX-License-Identifier: MIT
-ghost use Rattle.std.specs.Prelude.{◌≡◌, None, IsSomeAnd};
+ghost use Rattle.std.specs.Prelude.{◌≡◌, ◌↔◌, None, IfNone, IsSomeAnd, OnSome};
 ghost use Rattle.rrc_shelf.specs.Statuses.{OnDone, OnRefused};
-ghost use Rattle.rrc_c.specs.Handles.{MakingDue, TellsNone};
+ghost use Rattle.rrc_c.specs.declared.handle_status.TheConstants.{HAS_SHELF, NO_SHELF};
+ghost use Rattle.rrc_shelf.specs.Checks.{Due, IsDoneOrMemory};
+ghost use Rattle.rrc_shelf.specs.Refusals.{rules_checks};
 ghost use Rattle.rrc_shelf.specs.NewShelf.{IsNew};
 
 use crate::handle_status::{HAS_SHELF, NO_SHELF};
@@ -12,7 +14,8 @@ use std::alloc::Global;
 /// Makes an empty shelf for a handle that holds none. Its history is not recorded.
 #[unsafe(no_mangle)]
 pub extern "C" fn rrc_make(alloc: Global, handle: &mut ShelfHandle, rules: &ShelfRules) -> u32
-    ensures due { MakingDue rules.now handle.old.held.seal.shelf result }
+    ensures has { OnSome handle.old.held.seal.shelf (result ≡ HAS_SHELF) }
+    ensures due { IfNone handle.old.held.seal.shelf (Due (rules_checks rules.now) IsDoneOrMemory result) }
     ensures done { OnDone result (IsSomeAnd handle.new.held.seal.shelf (IsNew rules.now)) }
     ensures seed { OnDone result (handle.new.seed ≡ rules.now.seed) }
     ensures refused { OnRefused result (handle.new.held.seal.shelf ≡ handle.old.held.seal.shelf) }
@@ -35,7 +38,7 @@ pub extern "C" fn rrc_make(alloc: Global, handle: &mut ShelfHandle, rules: &Shel
 #[unsafe(no_mangle)]
 pub extern "C" fn rrc_free(alloc: Global, handle: &mut ShelfHandle) -> u32
     ensures left { handle.new.held.seal.shelf ≡ None }
-    ensures none { TellsNone handle.old.held.seal.shelf result }
+    ensures none { (result ≡ NO_SHELF) ↔ (handle.old.held.seal.shelf ≡ None) }
     ensures status { OnRefused result (handle.old.held.seal.shelf ≡ None) }
 {
     match handle.held.boxed().take(alloc) {

@@ -1,6 +1,8 @@
 // SPDX-License-Identifier: MIT
-ghost use Rattle.std.specs.Prelude.{◌≡◌, ℕ, None, Some, IsSome};
-ghost use Rattle.rrc_c.specs.Looked.{Held, Shelf, glance_owns, glance_shares, held_coded, shelf_coded, sight_owns};
+ghost use Rattle.std.specs.Prelude.{◌≡◌, ℕ, Option, None, Some, IsSome};
+ghost use Rattle.std.specs.Coded.{coded_option};
+ghost use Rattle.rrc_c.specs.Looked.{glance_owns, glance_shares, sight_owns};
+ghost use Rattle.rrc_share.specs.contracts.cache_shelf.CacheShelf.{the_row};
 
 use rrc_share::CacheShelf;
 use std::marker::Model;
@@ -10,7 +12,7 @@ use std::ptr;
 #[derive(Drop)]
 pub struct Glance {
     at: *mut CacheShelf,
-    pub ghost shelf: { Shelf } by { shelf_coded },
+    pub ghost shelf: { the_row.Denot } by { the_row.coded },
     pub ghost life: { ℕ },
 }
 
@@ -34,7 +36,7 @@ impl Glance {
 #[derive(Drop)]
 pub struct Sight {
     at: *mut u8,
-    pub ghost shelf: { Held } by { held_coded },
+    pub ghost shelf: { Option the_row.Denot } by { coded_option the_row.coded },
     pub ghost life: { ℕ },
 }
 

@@ -1,14 +1,15 @@
 // SPDX-License-Identifier: MIT
-ghost use Rattle.std.specs.Prelude.{◌≡◌, ◌⊎◌, None, drop, IfSome};
+ghost use Rattle.std.specs.Prelude.{◌≡◌, ◌↔◌, drop, None, IfSome, IsSomeAnd};
 ghost use Rattle.rrc_shelf.specs.Statuses.{number_of_call, OnDone, OnRefused};
 ghost use Rattle.rrc_shelf.specs.Folding.{FoldingDue, IsFoldedName};
-ghost use Rattle.rrc_c.specs.Handles.{OnNoShelf, BothHold, HoldsNone, IsKept, TellsNone};
+ghost use Rattle.rrc_c.specs.Handles.{BothHold, BothOrNone};
+ghost use Rattle.rrc_c.specs.declared.handle_status.TheConstants.{NO_SHELF};
 ghost use Rattle.rrc_shelf.specs.Checks.{OutOfMemory};
 ghost use Rattle.rrc_shelf.specs.Refusals.{RecordDue, WriteDue};
-ghost use Rattle.rrc_shelf.specs.Shelves.{DropsRecord, MakesSweep, StartsRecord};
+ghost use Rattle.rrc_shelf.specs.Shelves.{DropsRecord, IsLeftAs, MakesSweep, StartsRecord};
 ghost use Rattle.rrc_shelf.specs.SweepSteps.{SweepsSome, SweepsUntil};
 ghost use Rattle.rrc_shelf.specs.Trims.{TrimsShelf, TrimsUntil};
-ghost use Rattle.rrc_shelf.specs.Upkeep.{DropsChapters, TellsExpiry, TellsFault, TellsSizes};
+ghost use Rattle.rrc_shelf.specs.Upkeep.{DropsChapters, IsNextExpiry, TellsFault, TellsSizes};
 
 use crate::handle_status::NO_SHELF;
 use crate::look::ShelfLook;
@@ -23,9 +24,9 @@ use std::alloc::Global;
 /// Removes the keys that are fully expired at a moment, which is one event, and tells how many.
 #[unsafe(no_mangle)]
 pub extern "C" fn rrc_sweep(handle: &mut ShelfHandle, terms: &SweepTerms, removed: &mut u64) -> u32
-    ensures none { TellsNone handle.old.held.seal.shelf result }
+    ensures none { (result ≡ NO_SHELF) ↔ (handle.old.held.seal.shelf ≡ None) }
     ensures done { OnDone result (BothHold handle.old.held.seal.shelf handle.new.held.seal.shelf (λ old new. MakesSweep old new (record { line = terms.now.line; place = 0 }) terms.now.moment removed.new)) }
-    ensures refused { OnRefused result (IsKept handle.old.held.seal.shelf handle.new.held.seal.shelf) }
+    ensures refused { OnRefused result (BothOrNone handle.old.held.seal.shelf handle.new.held.seal.shelf IsLeftAs) }
     ensures removed { OnRefused result (removed.new ≡ removed.old) }
     ensures seed { handle.new.seed ≡ handle.old.seed }
     ensures due { IfSome handle.old.held.seal.shelf (λ shelf. WriteDue shelf terms.now.moment result) }
@@ -46,10 +47,10 @@ pub extern "C" fn rrc_sweep_some(
     terms: &SweepTerms,
     swept: &mut Swept,
 ) -> u32
-    ensures none { TellsNone handle.old.held.seal.shelf result }
+    ensures none { (result ≡ NO_SHELF) ↔ (handle.old.held.seal.shelf ≡ None) }
     ensures done { OnDone result (BothHold handle.old.held.seal.shelf handle.new.held.seal.shelf (SweepsSome terms.now swept.new)) }
-    ensures refused { OnRefused result (HoldsNone handle.old.held.seal.shelf handle.new.held.seal.shelf ⊎ BothHold handle.old.held.seal.shelf handle.new.held.seal.shelf (SweepsUntil result terms.now swept.new)) }
-    ensures swept { OnNoShelf result (swept.new ≡ swept.old) }
+    ensures refused { OnRefused result (BothOrNone handle.old.held.seal.shelf handle.new.held.seal.shelf (SweepsUntil result terms.now swept.new)) }
+    ensures swept { result ≡ NO_SHELF → swept.new ≡ swept.old }
     ensures seed { handle.new.seed ≡ handle.old.seed }
 {
     let Some(shelf) = handle.held.get_mut() else {
@@ -68,9 +69,9 @@ pub extern "C" fn rrc_trim(
     terms: &TrimTerms,
     trimmed: &mut Trimmed,
 ) -> u32
-    ensures none { TellsNone handle.old.held.seal.shelf result }
+    ensures none { (result ≡ NO_SHELF) ↔ (handle.old.held.seal.shelf ≡ None) }
     ensures done { OnDone result (BothHold handle.old.held.seal.shelf handle.new.held.seal.shelf (TrimsShelf terms.now trimmed.new)) }
-    ensures refused { OnRefused result (HoldsNone handle.old.held.seal.shelf handle.new.held.seal.shelf ⊎ BothHold handle.old.held.seal.shelf handle.new.held.seal.shelf (TrimsUntil result terms.now)) }
+    ensures refused { OnRefused result (BothOrNone handle.old.held.seal.shelf handle.new.held.seal.shelf (TrimsUntil result terms.now)) }
     ensures trimmed { OnRefused result (trimmed.new ≡ trimmed.old) }
     ensures seed { handle.new.seed ≡ handle.old.seed }
 {
@@ -90,7 +91,7 @@ pub extern "C" fn rrc_trim(
 /// already nothing is done.
 #[unsafe(no_mangle)]
 pub extern "C" fn rrc_record(handle: &mut ShelfHandle) -> u32
-    ensures none { TellsNone handle.old.held.seal.shelf result }
+    ensures none { (result ≡ NO_SHELF) ↔ (handle.old.held.seal.shelf ≡ None) }
     ensures done { OnDone result (BothHold handle.old.held.seal.shelf handle.new.held.seal.shelf StartsRecord) }
     ensures refused { OnRefused result (handle.new.held.seal.shelf ≡ handle.old.held.seal.shelf) }
     ensures seed { handle.new.seed ≡ handle.old.seed }
@@ -107,7 +108,7 @@ pub extern "C" fn rrc_record(handle: &mut ShelfHandle) -> u32
 /// done.
 #[unsafe(no_mangle)]
 pub extern "C" fn rrc_stop_and_drop(handle: &mut ShelfHandle) -> u32
-    ensures none { TellsNone handle.old.held.seal.shelf result }
+    ensures none { (result ≡ NO_SHELF) ↔ (handle.old.held.seal.shelf ≡ None) }
     ensures done { OnDone result (BothHold handle.old.held.seal.shelf handle.new.held.seal.shelf DropsRecord) }
     ensures refused { OnRefused result (handle.new.held.seal.shelf ≡ handle.old.held.seal.shelf) }
     ensures seed { handle.new.seed ≡ handle.old.seed }
@@ -123,9 +124,9 @@ pub extern "C" fn rrc_stop_and_drop(handle: &mut ShelfHandle) -> u32
 /// Takes the closed chapters, drops them, and tells how many there were.
 #[unsafe(no_mangle)]
 pub extern "C" fn rrc_drop_chapters(handle: &mut ShelfHandle, dropped: &mut u64) -> u32
-    ensures none { TellsNone handle.old.held.seal.shelf result }
+    ensures none { (result ≡ NO_SHELF) ↔ (handle.old.held.seal.shelf ≡ None) }
     ensures done { OnDone result (BothHold handle.old.held.seal.shelf handle.new.held.seal.shelf (DropsChapters dropped.new)) }
-    ensures refused { OnRefused result (IsKept handle.old.held.seal.shelf handle.new.held.seal.shelf) }
+    ensures refused { OnRefused result (BothOrNone handle.old.held.seal.shelf handle.new.held.seal.shelf IsLeftAs) }
     ensures dropped { OnRefused result (dropped.new ≡ dropped.old) }
     ensures seed { handle.new.seed ≡ handle.old.seed }
     ensures due { OnRefused result (handle.old.held.seal.shelf ≡ None) }
@@ -144,8 +145,8 @@ pub extern "C" fn rrc_drop_chapters(handle: &mut ShelfHandle, dropped: &mut u64)
 pub extern "C" fn rrc_next_expiry(look: &mut ShelfLook, moment: &mut u64) -> u32
     ensures kept { look.new.look.sight.shelf ≡ look.old.look.sight.shelf }
     ensures life { look.new.look.sight.life ≡ look.old.look.sight.life }
-    ensures none { TellsNone look.old.look.sight.shelf result }
-    ensures done { OnDone result (BothHold look.old.look.sight.shelf look.new.look.sight.shelf (TellsExpiry moment.new)) }
+    ensures none { (result ≡ NO_SHELF) ↔ (look.old.look.sight.shelf ≡ None) }
+    ensures done { OnDone result (IsSomeAnd look.old.look.sight.shelf (λ shelf. IsNextExpiry shelf.shelf.part moment.new)) }
     ensures moment { OnRefused result (moment.new ≡ moment.old) }
     ensures due { OnRefused result (look.old.look.sight.shelf ≡ None) }
 {
@@ -164,8 +165,8 @@ pub extern "C" fn rrc_next_expiry(look: &mut ShelfLook, moment: &mut u64) -> u32
 pub extern "C" fn rrc_sizes(look: &mut ShelfLook, sizes: &mut Sizes) -> u32
     ensures kept { look.new.look.sight.shelf ≡ look.old.look.sight.shelf }
     ensures life { look.new.look.sight.life ≡ look.old.look.sight.life }
-    ensures none { TellsNone look.old.look.sight.shelf result }
-    ensures done { OnDone result (BothHold look.old.look.sight.shelf look.new.look.sight.shelf (TellsSizes sizes.new)) }
+    ensures none { (result ≡ NO_SHELF) ↔ (look.old.look.sight.shelf ≡ None) }
+    ensures done { OnDone result (IsSomeAnd look.old.look.sight.shelf (TellsSizes sizes.new)) }
     ensures sizes { OnRefused result (sizes.new ≡ sizes.old) }
     ensures due { OnRefused result (look.old.look.sight.shelf ≡ None) }
 {

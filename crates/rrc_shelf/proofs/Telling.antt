@@ -14,7 +14,7 @@ use Rattle.rrc_history.specs.lemmas.EntryLaws.{entry_at-key}
 use Rattle.rrc_name.specs.Key.{KeyOf}
 use Rattle.rrc_name.specs.Wire.{labels_within, wire_of, IsWireForm}
 use Rattle.rrc_share.specs.CacheShelf.{CacheShelfOf, held_by}
-use Rattle.rrc_shelf.specs.Asks.{StandsAt, TellsEntry, TellsRecord}
+use Rattle.rrc_shelf.specs.Asks.{TellsEntry, TellsRecord}
 use Rattle.rrc_shelf.specs.ReplyRecord.{record_of, told_of}
 use Rattle.rrc_shelf.specs.declared.entry_record.EntryRecord.{EntryRecord}
 use Rattle.rrc_shelf.specs.declared.reply_record.ReplyRecord.{ReplyRecord}
@@ -29,6 +29,10 @@ some_octet (size ∷ octets) is = omega arith
 own_age : (entry : Option Entry) (age : ℕ) → record_of entry age ≡ record_of entry (record_of entry age).age
 own_age None age = refl
 own_age (Some entry) age = refl
+
+-- what is kept stands behind at most so many others
+abbrev StandsAt : CacheShelfOf → Option Entry → ℕ → Type 0
+StandsAt shelf entry age = IfSome entry (λ (one : Entry). StandsWithin shelf.shelf.part one.key age)
 
 stands_own : (shelf : CacheShelfOf) (entry : Option Entry) (age : ℕ) → StandsAt shelf entry age → StandsAt shelf entry (record_of entry age).age
 stands_own shelf None age stands = stands

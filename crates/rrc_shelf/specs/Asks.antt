@@ -1,6 +1,6 @@
 -- SPDX-License-Identifier: MIT
 -- What C asks, and what it is told.
-use Rattle.std.specs.Prelude.{◌≡◌, ℕ, ◌<◌, ◌≤◌, List, length, take, Bool, true, false, if◌then◌else◌, ◌==◌, Option, None, Some}
+use Rattle.std.specs.Prelude.{◌≡◌, ℕ, ◌<◌, ◌≤◌, List, length, take, Bool, true, false, if◌then◌else◌, ◌==◌, Option, IfSome}
 use Rattle.rrc_history.specs.Asked.{AskOf}
 use Rattle.rrc_history.specs.Judged.{answering}
 use Rattle.rrc_history.specs.Past.{found, reply_to}
@@ -49,15 +49,11 @@ reply_of shelf ask = reply_to shelf.shelf.part.snapshot (past_of shelf.shelf.par
 abbrev pub entry_for : CacheShelfOf → AskOf → Option Entry
 entry_for shelf ask = answering (found shelf.shelf.part.snapshot (past_of shelf.shelf.part) ask) ask (reply_of shelf ask)
 
--- an entry stands behind at most so many others, the key touched last first
-abbrev pub StandsAt : CacheShelfOf → Option Entry → ℕ → Type 0
-StandsAt shelf None age = Unit {0}
-StandsAt shelf (Some entry) age = StandsWithin shelf.shelf.part entry.key age
-
--- the record tells what is kept, if anything is, and behind how many others at most it stands
+-- the record tells what is kept, if anything is, and behind how many others at most it stands, the
+-- key touched last first
 pub record TellsEntry (shelf : CacheShelfOf) (entry : Option Entry) (told : EntryRecord) : Type 0 where
   pub record_is : told ≡ record_of entry told.age
-  pub stands : StandsAt shelf entry told.age
+  pub stands : IfSome entry (λ one. StandsWithin shelf.shelf.part one.key told.age)
 
 -- the record tells the reply that a shelf has for a question, and the entry that gives it
 pub record TellsRecord (ask : AskOf) (shelf : CacheShelfOf) (told : ReplyRecord) : Type 0 where
@@ -85,17 +81,7 @@ pub record Answers (ask : AskOf) (line : ℕ) (told : ReplyRecord) (before after
   pub made : MakesAsk old new (record { line = line; place = 0 }) ask (reply_of old ask)
   pub tells : TellsReply ask old told before after
 
--- nothing was written, and the reply that the shelf has is told
-pub record Shows (ask : AskOf) (told : ReplyRecord) (before after : List ℕ) (old new : CacheShelfOf) : Type 0 where
-  pub kept : new ≡ old
-  pub tells : TellsReply ask old told before after
-
--- nothing was written, and the record tells a reply whose octets are more than the buffer has
-pub record TellsSizeAlone (ask : AskOf) (told : ReplyRecord) (before after : List ℕ) (old new : CacheShelfOf) : Type 0 where
-  pub kept : new ≡ old
-  pub tells : TellsSizeOf ask old told before after
-
--- a question was answered, or where the buffer is too small only the size told
+-- a question was answered; or the buffer is too small, nothing was written, and only the size is told
 abbrev pub AnswersOr : Bool → AskOf → ℕ → ReplyRecord → List ℕ → List ℕ → CacheShelfOf → CacheShelfOf → Type 0
 AnswersOr true ask line told before after old new = Answers ask line told before after old new
-AnswersOr false ask line told before after old new = TellsSizeAlone ask told before after old new
+AnswersOr false ask line told before after old new = (new ≡ old) × TellsSizeOf ask old told before after

@@ -1,6 +1,7 @@
 -- SPDX-License-Identifier: MIT
 -- Chapters that leave a shelf, and the lines of their archive as C is told them.
-use Rattle.std.specs.Prelude.{◌≡◌, ℕ, ◌⊎◌, List, [], ◌∷◌, ◌++◌, length, take, drop, not, false, Option, None, Some, slice_get}
+use Rattle.std.specs.Prelude.{◌≡◌, ℕ, ◌⊎◌, List, [], ◌∷◌, ◌++◌, length, take, drop, not, false, Option, Some, slice_get, MatchOption}
+use Rattle.std.specs.Option.{option_and_then}
 use Rattle.rrc_history.specs.Chapters.{ChapterOf}
 use Rattle.rrc_share.specs.CacheShelf.{CacheShelfOf, lean_shelf}
 use Rattle.rrc_share.specs.Shelf.{AreBefore}
@@ -34,14 +35,9 @@ StopDue shelf number = OutOfMemory number ⊎ RecordDueBy (not shelf.records) sh
 
 -- ---- lines
 
--- a line of a chapter, without the LF at its end, if there are both
-abbrev pub line_in : Option ChapterOf → ℕ → Option (List ℕ)
-line_in None line = None
-line_in (Some chapter) line = slice_get (lines_of (written_of chapter)) line
-
--- the same of chapters; both are counted from 0
+-- a line of a chapter, without the LF at its end, if there are both; both are counted from 0
 abbrev pub line_at : List ChapterOf → LinePlace → Option (List ℕ)
-line_at chapters place = line_in (slice_get chapters place.chapter) place.line
+line_at chapters place = option_and_then (λ (chapter : ChapterOf). slice_get (lines_of (written_of chapter)) place.line) (slice_get chapters place.chapter)
 
 -- the octets from a place on, as many as there is room for
 abbrev pub piece_of : List ℕ → ℕ → ℕ → List ℕ
@@ -61,9 +57,5 @@ pub record TellsLine (chapters : List ChapterOf) (place : LinePlace) (told : Lin
   pub tells : TellsPiece (text ++ 10 ∷ []) place.from told before after
 
 -- when a line is told: 23 is answered exactly where there is none, and memory alone refuses one
-abbrev pub LineDueBy : Option (List ℕ) → ℕ → Type 0
-LineDueBy None number = number ≡ 23
-LineDueBy (Some text) number = IsDoneOrMemory number
-
 abbrev pub LineDue : List ChapterOf → LinePlace → ℕ → Type 0
-LineDue chapters place = LineDueBy (line_at chapters place)
+LineDue chapters place number = MatchOption (line_at chapters place) (number ≡ 23) (λ text. IsDoneOrMemory number)

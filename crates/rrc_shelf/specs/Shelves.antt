@@ -1,7 +1,7 @@
 -- SPDX-License-Identifier: MIT
 -- What calls leave of a shelf, whether its history is recorded or not: it stays as it is, and only
 -- rrc_record, rrc_stop_and_drop and rrc_stop_recording change it.
-use Rattle.std.specs.Prelude.{◌≡◌, ℕ, ◌^◌, ◌<◌, ◌≤◌, Bool, true, false, length}
+use Rattle.std.specs.Prelude.{◌≡◌, ℕ, ◌^◌, ◌<◌, ◌≤◌, Bool, true, false, length, if◌then◌else◌}
 use Rattle.rrc_history.specs.Asked.{AskOf}
 use Rattle.rrc_history.specs.Fits.{OfferOf}
 use Rattle.rrc_history.specs.declared.event.Outcome.{Outcome}
@@ -59,10 +59,8 @@ DropsRecord old new = new ≡ record { records = false; shelf = lean_shelf old.s
 
 -- how many events the open chapter has, if they are recorded
 abbrev pub recorded_events : Bool → ShelfOf → ℕ
-recorded_events true shelf = length shelf.part.events
-recorded_events false shelf = 0
+recorded_events records shelf = if records then length shelf.part.events else 0
 
 -- how many chapters are closed, if they are recorded
 abbrev pub recorded_chapters : Bool → ShelfOf → ℕ
-recorded_chapters true shelf = length shelf.closed
-recorded_chapters false shelf = 0
+recorded_chapters records shelf = if records then length shelf.closed else 0

@@ -1,6 +1,6 @@
 -- SPDX-License-Identifier: MIT
 -- What C is told of what the keys of a question hold.
-use Rattle.std.specs.Prelude.{◌≡◌, Option}
+use Rattle.std.specs.Prelude.{Option}
 use Rattle.rrc_name.specs.declared.slot.Slot.{Slot}
 use Rattle.rrc_name.specs.declared.slot.Slot.TheVariants.{Set, Nx, Failed}
 use Rattle.rrc_history.specs.declared.snapshot.Entry.{Entry}
@@ -23,8 +23,3 @@ pub record TellsHeld (name : FoldedName) (question : Question) (stored : Stored)
   pub set : TellsEntry shelf (held_at shelf name question (Set question.rtype)) stored.set
   pub nxdomain : TellsEntry shelf (held_at shelf name question Nx) stored.nxdomain
   pub failure : TellsEntry shelf (held_at shelf name question (Failed question.rtype)) stored.failure
-
--- the same, and the shelf is as it was
-pub record TellsStored (name : FoldedName) (question : Question) (stored : Stored) (old new : CacheShelfOf) : Type 0 where
-  pub kept : new ≡ old
-  pub tells : TellsHeld name question stored old

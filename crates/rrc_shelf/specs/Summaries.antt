@@ -1,19 +1,19 @@
 -- SPDX-License-Identifier: MIT
 -- What a response says beside what it offers, and what C is told of that.
-use Rattle.std.specs.Prelude.{◌≡◌, ℕ, List, Option, None, Some}
+use Rattle.std.specs.Prelude.{◌≡◌, ℕ, List, Option, None, Some, MatchOption}
 use Rattle.rrc_wire.specs.declared.message.Message.{Message}
 use Rattle.rrc_sets.specs.Kinds.{kind_of}
 use Rattle.rrc_sets.specs.Relevance.{AreDefault}
 use Rattle.rrc_sets.specs.declared.kind.ResponseKind.{ResponseKind}
 use Rattle.rrc_sets.specs.declared.kind.ResponseKind.TheVariants.{Answer, UnequalTtls, NoData, NxDomain, Referral, Alias, Failure, Unusable}
 use Rattle.rrc_sets.specs.declared.relevance.RelevanceLimits.{RelevanceLimits}
+use Rattle.rrc_shelf.specs.Checks.{IsDone}
 use Rattle.rrc_shelf.specs.Folding.{FoldingDue, IsFoldedName}
 use Rattle.rrc_shelf.specs.Offered.{division_of}
 use Rattle.rrc_shelf.specs.declared.folded_name.FoldedName.{FoldedName}
 use Rattle.rrc_shelf.specs.declared.reading.Reading.{Reading}
 use Rattle.rrc_shelf.specs.declared.summary.Summary.{Summary}
 use Rattle.rrc_shelf.specs.declared.summary.SummaryRecord.{SummaryRecord}
-use Rattle.rrc_shelf.specs.declared.terms.Division.{Division}
 use Rattle.rrc_shelf.specs.declared.terms.ResponseTerms.{ResponseTerms}
 
 -- the limits of relevance of a call: those that are set by default, but for what it chooses
@@ -47,21 +47,12 @@ name_of_kind kind = None
 abbrev pub record_of_summary : Summary → SummaryRecord
 record_of_summary summary = record { kind = number_of_kind summary.kind; rcode = summary.rcode; aa = summary.aa; tc = summary.tc }
 
--- a name is made of octets, if there are some, and else it is as it was
-abbrev pub IsMadeOf : Option (List ℕ) → Division → FoldedName → FoldedName → Type 0
-IsMadeOf None division before after = after ≡ before
-IsMadeOf (Some octets) division before after = IsFoldedName octets division after
-
--- C is told what a reading says, and the name of its kind is made
+-- C is told what a reading says, and the name of its kind is made, if it has one; else it is as it was
 pub record TellsSummary (reading : Reading) (told : SummaryRecord) (before after : FoldedName) : Type 0 where
   pub told_is : told ≡ record_of_summary reading.summary
-  pub name_is : IsMadeOf (name_of_kind reading.summary.kind) (division_of reading) before after
+  pub name_is : MatchOption (name_of_kind reading.summary.kind) (after ≡ before) (λ octets. IsFoldedName octets (division_of reading) after)
 
--- when a name is made of octets, if there are some, and when that is refused with what
-abbrev pub MakingDue : Option (List ℕ) → Division → ℕ → Type 0
-MakingDue None division number = number ≡ 0
-MakingDue (Some octets) division number = FoldingDue octets division number
-
--- when it is told what a reading says, and when that is refused with what
+-- when it is told what a reading says, and when each refusal is returned: only the name of its kind
+-- can be refused
 abbrev pub SummaryDue : Reading → ℕ → Type 0
-SummaryDue reading = MakingDue (name_of_kind reading.summary.kind) (division_of reading)
+SummaryDue reading number = MatchOption (name_of_kind reading.summary.kind) (IsDone number) (λ octets. FoldingDue octets (division_of reading) number)

@@ -64,17 +64,9 @@ pub record SweepsUpTo (number : ℕ) (sweep : SweepTerms) (removed : ℕ) (old n
   pub timely : at ≤ sweep.moment
   pub due : WriteDue middle at number
 
--- the same, and it is told that it is not done
-pub record SweepsFirst (number : ℕ) (sweep : SweepTerms) (swept : Swept) (old new : CacheShelfOf) : Type 0 where
-  pub fit : Passes (step_checks sweep)
-  pub sweeps : SweepsUpTo number sweep swept.removed old new
-  pub undone : swept.is_done ≡ 0
-
--- nothing was swept
-pub record SweepsNothing (swept : Swept) (old new : CacheShelfOf) : Type 0 where
-  pub kept : new ≡ old
-  pub none : swept ≡ record { removed = 0; is_done = 0 }
-
--- what a refusal by this number leaves
+-- what a refusal by this number leaves: a check failed and nothing was swept, or all passed and the
+-- first sweeps were made, and it is told that the sweep is not done
 abbrev pub SweepsUntil : ℕ → SweepTerms → Swept → CacheShelfOf → CacheShelfOf → Type 0
-SweepsUntil number sweep swept old new = (SweepsNothing swept old new × Refuses (step_checks sweep) number) ⊎ SweepsFirst number sweep swept old new
+SweepsUntil number sweep swept old new =
+    (Refuses (step_checks sweep) number × (new ≡ old) × (swept ≡ record { removed = 0; is_done = 0 }))
+    ⊎ (Passes (step_checks sweep) × SweepsUpTo number sweep swept.removed old new × (swept.is_done ≡ 0))

@@ -21,12 +21,11 @@ TellsFault octets number =
 -- how many keys the shelf holds, how many events the open chapter has and how many chapters are
 -- closed, of which there are none where nothing is recorded, and how many octets the entries of
 -- these keys have
-pub record TellsSizes (sizes : Sizes) (old new : CacheShelfOf) : Type 0 where
-  pub kept : new ≡ old
-  pub keys_are : HoldsKeys old.shelf.part sizes.keys
-  pub events_are : sizes.events ≡ recorded_events old.records old.shelf
-  pub chapters_are : sizes.chapters ≡ recorded_chapters old.records old.shelf
-  pub octets_are : HoldsOctets old.shelf.part sizes.octets
+pub record TellsSizes (sizes : Sizes) (shelf : CacheShelfOf) : Type 0 where
+  pub keys_are : HoldsKeys shelf.shelf.part sizes.keys
+  pub events_are : sizes.events ≡ recorded_events shelf.records shelf.shelf
+  pub chapters_are : sizes.chapters ≡ recorded_chapters shelf.records shelf.shelf
+  pub octets_are : HoldsOctets shelf.shelf.part sizes.octets
 
 -- the greatest number is told, since no key holds anything
 pub record TellsNever (part : PartOf) (moment : ℕ) : Type 0 where
@@ -44,11 +43,6 @@ pub record TellsNext (part : PartOf) (moment : ℕ) : Type 0 where
 -- the next expiry of a part, or 2^64 - 1 where no key holds anything
 abbrev pub IsNextExpiry : PartOf → ℕ → Type 0
 IsNextExpiry part moment = TellsNever part moment ⊎ TellsNext part moment
-
--- the next expiry of the shelf's part is told
-pub record TellsExpiry (moment : ℕ) (old new : CacheShelfOf) : Type 0 where
-  pub kept : new ≡ old
-  pub next : IsNextExpiry old.shelf.part moment
 
 -- the closed chapters were dropped, and as many of them are told, of which there are none where
 -- nothing is recorded

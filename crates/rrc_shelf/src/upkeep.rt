@@ -70,7 +70,7 @@ fn chapters_of(shelf: &CacheShelf) -> u64
 
 /// How much a shelf holds.
 pub fn sizes_of(shelf: &CacheShelf) -> Sizes
-    ensures { TellsSizes result shelf.now shelf.now }
+    ensures { TellsSizes result shelf.now }
 {
     Sizes {
         keys: shelf.len() as u64,

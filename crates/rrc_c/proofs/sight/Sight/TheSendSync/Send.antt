@@ -5,14 +5,14 @@ use denote.RawPtr.{Ptr}
 use denote.Struct.Struct.{exits_of}
 use denote.Struct.Owning.{shape, fields, to}
 use denote.Param.Send.{IsSend, AllSend, owning_send, struct_send, sendable}
-use Rattle.std.specs.Prelude.{ℕ, [], ◌∷◌, None, Some}
+use Rattle.std.specs.Prelude.{ℕ, [], ◌∷◌, Option, None, Some}
 use Rattle.std_alloc.proofs.SendSync.{quiet, seen}
-use Rattle.rrc_c.specs.Looked.{Held, sight_owns}
+use Rattle.rrc_c.specs.Looked.{sight_owns}
 use Rattle.rrc_share.specs.contracts.cache_shelf.CacheShelf as Shelf
 use Rattle.rrc_share.proofs.cache_shelf.CacheShelf.TheSendSync.{the_sync as shelf}
 use Rattle.rrc_c.specs.contracts.sight.Sight.{the_row, the_type}
 
-lent : (at : Ptr) (life : ℕ) (held : Held) → Keyless (sight_owns at life held)
+lent : (at : Ptr) (life : ℕ) (held : Option Shelf.the_row.Denot) → Keyless (sight_owns at life held)
 lent at life None = tt
 lent at life (Some held) = (tt, seen Shelf.the_row shelf at held (life ∷ []))
 

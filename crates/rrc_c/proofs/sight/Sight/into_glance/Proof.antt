@@ -1,8 +1,7 @@
 -- SPDX-License-Identifier: MIT
 -- `into_glance` moves the pointer, and what the sight owns goes with it.
 use Rattle.std.proofs.Common.{List, [], ◌∷◌, ◌++◌, refl, sym, subst, ap, ◌∙◌}
-use Rattle.std.specs.Prelude.{IsSome}
-use Rattle.rrc_c.specs.Looked.{Held}
+use Rattle.std.specs.Prelude.{Option, IsSome}
 use mir.Val.{Val, vptr}
 use base.Logic.{SProp, ent, id⊢, never, fst∗}
 use base.Fml.{ftrue, fsep, flft}
@@ -48,7 +47,7 @@ into_glance_spec 𝓤 𝓛 𝓜 𝓡 wired =
     qed 𝓛 ((‵ ftrue ⊛ ‵ (fsep (sight.the_row.own_val g us) ftrue)) ∷ raw (fact 𝓤 (IsSome g.shelf)) ∷ []) ∵ move ! (1 ∷ []) $ heard ! (IsSome g.shelf) (λ some.
     by_held g.shelf some (λ shelf more. split ! $ drop ! $ fsplit ! $
     peeks ! sight.the_row _ (shows 𝓛 sight.the_row) g us (λ is.
-    rewrite ! 0 (λ (held : Held). ‵ (sight.the_row.own_val (record { at = g.at; shelf = held; life = g.life }) us)) more refl $ fsplit ! $ drop ! $ move ! (1 ∷ []) $ drop ! $ fsplit ! $ move ! (1 ∷ []) $
+    rewrite ! 0 (λ (held : Option T.Denot). ‵ (sight.the_row.own_val (record { at = g.at; shelf = held; life = g.life }) us)) more refl $ fsplit ! $ drop ! $ move ! (1 ∷ []) $ drop ! $ fsplit ! $ move ! (1 ∷ []) $
     in_a_block ! g.at (λ p. lent_at T p shelf (g.life ∷ [])) (fst∗ 𝓤 (never 𝓤) (sem 𝓛 (shared_of T shelf 0 0 (g.life ∷ [])))) (λ b o e.
     let made : glance.the_row.Denot = record { at = block_ptr b o; shelf = shelf; life = g.life } in
     let w = word b o in
