@@ -438,7 +438,7 @@ RRCACHE_API bool rrcache_next(const struct rrcache_answer *answer, struct rrcach
    answer, and look up `end` next. Do not look up the name of the query again: if a CNAME record of
    the chain has TTL 0, the record is not stored, and the look-up misses again.
 
-   Check `kind` of the answer first. Check the kind of the response only if the answer is a miss,
+   Check the `kind` of the answer first. Check the kind of the response only if the answer is a miss,
    because records of a type that is not kept do not affect the kind of a response. If the query is
    of such a type and the response contains the data or denies that they exist, the kind of the
    response is usually RRCACHE_RESPONSE_UNUSABLE or, if a CNAME record leads to the data,
@@ -529,8 +529,8 @@ RRCACHE_API enum rrcache_status rrcache_stats(struct rrcache *cache, struct rrca
 #pragma GCC diagnostic pop
 #endif
 
-/* Writes to `stats` the counters of the shelf with the number `shelf`, counted from 0. Returns
-   RRCACHE_BAD_RULES if there is no such shelf. */
+/* Writes the counters of the shelf with the number `shelf` to `stats`. Shelves are numbered from 0.
+   Returns RRCACHE_BAD_RULES if there is no such shelf. */
 RRCACHE_API enum rrcache_status rrcache_stats_of(struct rrcache *cache, uint64_t shelf,
                                                  struct rrcache_stats *stats);
 

@@ -1479,9 +1479,9 @@ static inline enum rrcache_status rrcache_can_read(const struct rrcache_response
      name is the name of the question. A chain of more than 16 CNAME records has no final name.
    - In the additional section, the A and AAAA RRsets of hosts are relevant. The hosts are the first
      20 names in the rdata of relevant NS, MX and SRV RRsets. The names in NS RRsets come first;
-     apart from that, the names are in the order of the first records of their RRsets. A name that
-     occurs several times counts only once. A name that is out of bailiwick counts too, although its
-     addresses are left out.
+     apart from that, the names are taken in the order in which the first records of their RRsets
+     appear in the message. A name that occurs several times counts only once. A name that is out of
+     bailiwick counts too, although its addresses are left out.
    - A negative answer or a failure is always relevant. If `clears_denied` is set, the offers with
      which an NXDOMAIN clears data are relevant too.
 

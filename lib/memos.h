@@ -102,9 +102,9 @@ static inline uint64_t mixed(uint64_t sum, uint64_t word)
     return (sum ^ word ^ sum >> 32) * UINT64_C(0x9e3779b97f4a7c15);
 }
 
-/* The mark of a name and a type. A mark is odd. It shows which memo may have the answer, and its
-   highest bits choose the slot. The last eight octets of the name are mixed in together, even if
-   some of them were mixed in before. */
+/* The mark of a name and a type. A mark is an odd number. It shows which memo may have the answer,
+   and its highest bits choose the slot. The last eight octets of the name are mixed in together,
+   even if some of them were mixed in before. */
 static inline uint32_t mark_of(const uint8_t *name, size_t size, uint16_t rtype)
 {
     uint64_t sum = (uint64_t)size << 16 | rtype, word = 0;
