@@ -438,10 +438,10 @@ RRCACHE_API bool rrcache_next(const struct rrcache_answer *answer, struct rrcach
    answer, and look up `end` next. Do not look up the name of the query again: if a CNAME record of
    the chain has TTL 0, the record is not stored, and the look-up misses again.
 
-   Check the `kind` of the answer first. Check the kind of the response only if the answer is a miss,
-   because records of a type that is not kept do not affect the kind of a response. If the query is
-   of such a type and the response contains the data or denies that they exist, the kind of the
-   response is usually RRCACHE_RESPONSE_UNUSABLE or, if a CNAME record leads to the data,
+   Check the `kind` of the answer first. Check the kind of the response only if the answer is a
+   miss, because records of a type that is not kept do not affect the kind of a response. If the
+   query is of such a type and the response contains the data or denies that they exist, the kind of
+   the response is usually RRCACHE_RESPONSE_UNUSABLE or, if a CNAME record leads to the data,
    RRCACHE_RESPONSE_ALIAS.
 
    Also returns RRCACHE_BAD_LIMITS if a limit is out of range, and RRCACHE_BAD_NAME if the zone or
