@@ -38,9 +38,10 @@
    - No call holds the locks of two shelves at the same time, so calls are not atomic across
      shelves: while one call looks up or stores data in several shelves, other calls may change
      these shelves. When `rrcache_store` stores several RRsets in one shelf, it may even release the
-     lock of that shelf between two of them. However, these calls are atomic: `rrcache_lookup` if it
-     finds no CNAME record, `rrcache_store_set`, `rrcache_store_negative`, `rrcache_store_failure`,
-     and `rrcache_forget` with a type other than ANY.
+     lock of that shelf between two of them. However, these calls are atomic (docs/ARCHITECTURE.md
+     explains why; this is not proved): `rrcache_lookup` if it finds no CNAME record,
+     `rrcache_store_set`, `rrcache_store_negative`, `rrcache_store_failure`, and `rrcache_forget`
+     with a type other than ANY.
    - If a look-up is repeated with the same timestamp and the name is in lower case, the library may
      copy the answer from a memo, which is a saved copy of an earlier answer. The library uses a
      memo only if nothing in the shelf of the name has changed since the earlier answer was
@@ -111,7 +112,8 @@
      time of CLOCK_BOOTTIME, a clock that cannot be set and that keeps running while the machine is
      suspended. If this clock cannot be read, for example in a sandbox, 0 means the time of
      CLOCK_MONOTONIC. That clock stops while the machine is suspended, so data then expire too late,
-     by the length of the suspension.
+     by the length of the suspension. Each call chooses the clock anew, so a program that enters
+     such a sandbox must enter it before its first call.
    - A program must either pass 0 in every call, or pass timestamps from its own clock in every
      call. If a program passes 0 in some calls and timestamps from its own clock in others, data
      expire too late or too early. The program's own clock must never be set back. If this clock is

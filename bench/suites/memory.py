@@ -72,7 +72,7 @@ def caches(args):
         for threads in args.threads:
             names = 4 * min(limit // SET_OCTETS, MOST_KEYS)
             keys, counted, held = map(int, ran(program, threads, mebibytes, names).stdout.split())
-            plan = 2.575 * limit + 4 * MOST_KEYS
+            plan = 2.575 * limit + 2 * MOST_KEYS
             rows.append([f"{mebibytes:,} MiB", threads, f"{keys:,}",
                          *(f"{it / limit:.2f}" for it in (counted, held, plan))])
             print(*rows[-1], flush=True)
