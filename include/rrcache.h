@@ -270,7 +270,9 @@ struct rrcache_rrset {
     size_t next;                /* the offset of the next RRset in the buffer */
 };
 
-/* The result of `rrcache_store`. */
+/* The result of `rrcache_store`. It contains only totals. To find out what happened to each RRset,
+   look up the RRset afterwards, or record a history (`rrcache_record_all`): its events contain the
+   outcome of each offer. */
 struct rrcache_report {
     struct rrcache_summary summary; /* RCODE, AA and TC of the response, and its kind */
     struct rrcache_counts counts;
