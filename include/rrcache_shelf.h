@@ -2118,8 +2118,9 @@ static inline enum rrcache_status rrcache_sweep_some(struct rrcache_shelf *shelf
    key is left. The call writes to `trimmed` the number of keys that it removed, and the number of
    octets that the remaining keys use. If this number of octets is still above the limit, call
    `rrcache_trim` again. If a caller trims the shelf after each message, each trim frees about as
-   many octets as the message added, so no trim takes long. The entries of the remaining keys do not
-   change. Needs the write lock.
+   many octets as the message added, so no trim takes long. Only the first trim of a shelf
+   visits all keys, to add up their octets. The entries of the remaining keys do not change. Needs
+   the write lock.
 
    In a trim, the eviction of data is one event: an offer of these data with TTL 0, which clears the
    key. The eviction of a failure is two events: an offer of a failure with TTL 0, and a sweep at
@@ -2323,13 +2324,18 @@ static inline enum rrcache_status rrcache_free_chapters(struct rrcache_chapters 
    also use RRCACHE_BLOCK_OCTETS plus their own size. A name uses RRCACHE_SHARED_OCTETS more than
    rdata of the same size.
 
-   The shelf updates its counts of keys and octets whenever keys change, so the time that
-   `rrcache_sizes` takes does not grow with the number of keys. The number of octets does not
-   include the memory of events and chapters, which keep data even after the data have been
-   replaced, evicted or swept. Nor does it include the names and expiry times of evicted and cleared
-   keys: a shelf that has been swept keeps these names and times until the keys would have fully
-   expired. If the shelf held n keys when data were last stored, it keeps at most 3n + 64 expiry
-   times, including those of the keys that it still holds. */
+   The first `rrcache_trim` of a shelf adds up the octets of all its keys. From then on, the shelf
+   updates this number whenever keys change, so the time that `rrcache_sizes` takes does not grow
+   with the number of keys. Before the first trim, nobody limits the octets, so the shelf does not
+   keep this number, which makes stores faster: each `rrcache_sizes` then visits all keys. If you
+   call `rrcache_sizes` often but do not limit the octets, trim the shelf once, with the limit
+   UINT64_MAX, right after you make it.
+
+   The number of octets does not include the memory of events and chapters, which keep data even
+   after the data have been replaced, evicted or swept. Nor does it include the names and expiry
+   times of evicted and cleared keys: a shelf that has been swept keeps these names and times until
+   the keys would have fully expired. If the shelf held n keys when data were last stored, it keeps
+   at most 3n + 64 expiry times, including those of the keys that it still holds. */
 static inline enum rrcache_status rrcache_sizes(const struct rrcache_shelf *shelf,
                                                 struct rrcache_usage *sizes)
 {

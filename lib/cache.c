@@ -60,13 +60,19 @@ static enum rrcache_status refusal_of(const struct rrcache_config *config)
     return are_good(&config->limits) ? RRCACHE_DONE : RRCACHE_BAD_LIMITS;
 }
 
-/* Makes the locks and the shelf of a part. If that fails, neither is left. */
+/* Makes the locks and the shelf of a part. If that fails, neither is left. The first trim of a
+   shelf makes it keep a count of its octets, which `settle` reads after each store. */
 static enum rrcache_status make_part(const struct rrcache *cache, struct part *part,
                                      const struct rrcache_rules *rules)
 {
+    const struct rrcache_trim_to trim = {.limit = UINT64_MAX, .most = 1};
+    struct rrcache_trimmed trimmed = {0};
     enum rrcache_status status = rrcache_make(&part->shelf, rules);
-    if (status != RRCACHE_DONE || make_locks(cache, part))
+    if (status != RRCACHE_DONE)
         return status;
+    rrcache_trim(&part->shelf, &trim, &trimmed); /* the shelf is empty, so this cannot fail */
+    if (make_locks(cache, part))
+        return RRCACHE_DONE;
     rrcache_free(&part->shelf);
     return RRCACHE_MEMORY;
 }

@@ -479,6 +479,9 @@ class Shelf(Held):
     def sizes(self) -> Sizes:
         """Returns the sizes of the shelf.
 
+        Before the first `trim`, the call visits all keys to add up their octets. From the first
+        `trim` on, the shelf keeps this number up to date.
+
         >>> with Shelf() as shelf:
         ...     _ = shelf.offer_failure("www.example.", 1, 30, moment=1000)
         ...     shelf.sizes()

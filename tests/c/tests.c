@@ -1715,13 +1715,26 @@ enum {
     OF_DENIAL = OF_KEY + OF_NAME + OF_DATA + OF_DATUM
 };
 
+/* From when on a shelf counts octets: its first trim makes it. */
+enum counting { NEVER, FROM_THE_FIRST, FROM_THE_MIDDLE };
+
+static void count_octets(struct rrcache_shelf *shelf)
+{
+    struct rrcache_trimmed trimmed;
+    uint64_t octets = octets_of_keys(shelf), before = events(shelf);
+    EXPECT(rrcache_trim(shelf, TRIM(FIRST, UINT64_MAX, 1), &trimmed) == RRCACHE_DONE
+           && trimmed.removed == 0 && trimmed.octets == octets && events(shelf) == before);
+}
+
 /* How many octets the keys take is told through all that changes them. */
-static void test_octets_of_keys(void)
+static void check_octets_of_keys(enum counting counting)
 {
     struct rrcache_shelf shelf = {0};
     struct rrcache_counts counts;
     uint64_t number = 9;
     EXPECT(make_by(&shelf, 2, 3, 0) == RRCACHE_DONE && octets_of_keys(&shelf) == 0);
+    if (counting == FROM_THE_FIRST)
+        count_octets(&shelf);
 
     EXPECT(offer_address(&shelf, OF(NAME), 3, 60) == RRCACHE_KEPT
            && octets_of_keys(&shelf) == OF_ADDRESS);
@@ -1734,6 +1747,8 @@ static void test_octets_of_keys(void)
     /* That other.example has no address. */
     EXPECT(offer_denial(&shelf, OF(OTHER), RRCACHE_NODATA, 3, 60) == RRCACHE_KEPT
            && octets_of_keys(&shelf) == OF_TWO + OF_DENIAL);
+    if (counting == FROM_THE_MIDDLE)
+        count_octets(&shelf);
     EXPECT(asked(&shelf, OF(NAME), question(A, FIRST)).told.kind == RRCACHE_FRESH
            && octets_of_keys(&shelf) == OF_TWO + OF_DENIAL);
     EXPECT(rrcache_drop_chapters(&shelf, &number) == RRCACHE_DONE && number == 1
@@ -1756,6 +1771,13 @@ static void test_octets_of_keys(void)
     EXPECT(sweep(&shelf, FIRST + 30) == 1 && octets_of_keys(&shelf) == OF_ADDRESS);
     EXPECT(sweep(&shelf, FIRST + 60) == 1 && keys(&shelf) == 0 && octets_of_keys(&shelf) == 0);
     EXPECT(rrcache_free(&shelf) == RRCACHE_DONE);
+}
+
+static void test_octets_of_keys(void)
+{
+    check_octets_of_keys(NEVER);
+    check_octets_of_keys(FROM_THE_FIRST);
+    check_octets_of_keys(FROM_THE_MIDDLE);
 }
 
 static uint64_t next_expiry(struct rrcache_shelf *shelf)

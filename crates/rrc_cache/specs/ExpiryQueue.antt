@@ -64,9 +64,9 @@ is_expired_by stale time None = false
 is_expired_by stale time (Some entry) = nat_le (full_expiry_of stale entry) time
 
 -- of an entry that another replaces: its number, from when on it is fully expired, and its octets
--- modulo 2^64
-abbrev pub replaced_of : ℕ → Entry → Replaced
-replaced_of stale entry = record { number = entry.number; expires = full_expiry_of stale entry; octets = counted_octets entry }
+-- modulo 2^64, if these are counted
+abbrev pub replaced_of : ℕ → Bool → Entry → Replaced
+replaced_of stale counts entry = record { number = entry.number; expires = full_expiry_of stale entry; octets = if counts then Some (counted_octets entry) else None }
 
 -- the keys of expiries under which something fully expired is kept
 abbrev pub expired_among : ℕ → ℕ → List Entry → List Expiry → List KeyOf

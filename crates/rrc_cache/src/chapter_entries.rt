@@ -1,5 +1,5 @@
 // SPDX-License-Identifier: MIT
-ghost use Rattle.std.specs.Prelude.{◌≡◌, ◌-◌, [], ◌∷◌, Some, None, length, take, IfOk, OnOk, OnErr};
+ghost use Rattle.std.specs.Prelude.{◌≡◌, ◌-◌, [], ◌∷◌, Some, None, length, take, IfOk, IfSome, OnOk, OnErr};
 ghost use Rattle.std.specs.Option.{option_map};
 ghost use Rattle.rrc_name.specs.KeyRef.{key_of};
 ghost use Rattle.rrc_history.specs.Past.{entry_at, entry_of, last_key};
@@ -59,6 +59,13 @@ impl ChapterEntries {
         &self.map
     }
 
+    /// Counts the octets from now on (`Holdings::count_octets`).
+    pub(crate) fn count_octets(&mut self)
+        ensures { self.new ≡ self.old }
+    {
+        self.map.count_octets();
+    }
+
     /// Puts an entry in front, in the place of the one that its key had, and answers that one. An
     /// `Err` leaves all as it was.
     pub(crate) fn put(&mut self, hash: u64, entry: Entry) -> Result<Option<Entry>, AllocError>
@@ -85,7 +92,7 @@ impl ChapterEntries {
     ) -> Result<(), AllocError>
         requires hash { hash ≡ name_hash self.old.seeded offer.now.key.name }
         requires number { option_map (λ entry. entry.number) (entry_at offer.now.key self.old.entries) ≡ Some replaced.number }
-        requires octets { option_map counted_octets (entry_at offer.now.key self.old.entries) ≡ Some replaced.octets }
+        requires octets { IfSome replaced.octets (λ octets. option_map counted_octets (entry_at offer.now.key self.old.entries) ≡ Some octets) }
         ensures ok { OnOk result (self.new ≡ record self.old { entries = entry_of offer.now number ∷ staying (goes offer.now.key None) self.old.entries }) }
         ensures err { OnErr result (self.new ≡ self.old) }
     {

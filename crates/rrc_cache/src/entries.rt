@@ -68,7 +68,7 @@ pub(crate) fn take(
     let outcome = verdict(held, offer);
     let evicted = match (outcome, held) {
         (Outcome::Kept, Some(held)) => {
-            let replaced = Replaced::of(held, store.stale());
+            let replaced = Replaced::of(held, store.stale(), store.counts_octets());
             store.replace(hash, offer, number, replaced)?;
             None
         }

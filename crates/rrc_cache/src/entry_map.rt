@@ -1,6 +1,6 @@
 // SPDX-License-Identifier: MIT
 ghost use Rattle.rrc_cache.specs.Ages.{ahead_of};
-ghost use Rattle.std.specs.Prelude.{◌≡◌, ◌-◌, ◌<◌, ◌≤◌, ◌^◌, ◌%◌, [], ◌∷◌, Some, None, length, take, IfOk, IfSome, OnOk, OnErr};
+ghost use Rattle.std.specs.Prelude.{◌≡◌, ◌-◌, ◌<◌, ◌≤◌, ◌^◌, ◌%◌, [], ◌∷◌, Some, None, length, take, IfOk, IfSome, OnOk, OnErr, IsSome};
 ghost use Rattle.std.specs.Map.{lookup};
 ghost use Rattle.std.specs.Option.{option_map};
 ghost use Rattle.lru.specs.LruCache.{lru_cache, promoted as lru_promoted};
@@ -67,11 +67,23 @@ impl EntryMap {
         self.holdings.has_distinct_keys();
     }
 
-    /// The octets of all entries, modulo 2^64. They are counted already.
+    /// The octets of all entries, modulo 2^64 (`Holdings::octets`).
     pub(crate) fn octets(&self) -> u64
         ensures { result ≡ octets_of self.now.entries % 2 ^ 64 }
     {
         self.holdings.octets()
+    }
+
+    /// Counts the octets from now on (`Holdings::count_octets`).
+    pub(crate) fn count_octets(&mut self)
+        ensures { self.new ≡ self.old }
+    {
+        self.holdings.count_octets();
+    }
+
+    /// Whether the octets are counted.
+    pub(crate) fn counts_octets(&self) -> bool {
+        self.holdings.counts_octets()
     }
 
     pub(crate) fn allocator(&self) -> Global {
@@ -125,23 +137,24 @@ impl EntryMap {
         Ok(old)
     }
 
-    /// Writes what an offer stores over the entry of its key, whose octets are told, and moves that
-    /// to the front. An `Err` leaves all as it was.
+    /// Writes what an offer stores over the entry of its key, and moves that to the front
+    /// (`Holdings::overwrite`). An `Err` leaves all as it was.
     pub(crate) fn overwrite(
         &mut self,
         hash: u64,
         offer: &Offer,
         number: u64,
-        octets: u64,
+        replaced: Option<u64>,
     ) -> Result<(), AllocError>
         requires hash { hash ≡ name_hash self.old.seeded offer.now.key.name }
-        requires held { option_map counted_octets (entry_at offer.now.key self.old.entries) ≡ Some octets }
+        requires held { IsSome (entry_at offer.now.key self.old.entries) }
+        requires octets { IfSome replaced (λ octets. option_map counted_octets (entry_at offer.now.key self.old.entries) ≡ Some octets) }
         ensures ok { OnOk result (self.new ≡ record self.old { entries = entry_of offer.now number ∷ staying (goes offer.now.key None) self.old.entries }) }
         ensures err { OnErr result (self.new ≡ self.old) }
     {
         self.holdings.fits_memory();
         self.holdings.has_distinct_keys();
-        self.holdings.overwrite(hash, offer, number, octets)?;
+        self.holdings.overwrite(hash, offer, number, replaced)?;
         Ok(())
     }
 

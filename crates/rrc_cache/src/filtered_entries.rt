@@ -1,5 +1,5 @@
 // SPDX-License-Identifier: MIT
-ghost use Rattle.std.specs.Prelude.{◌≡◌, ◌-◌, ◌<◌, ℕ, [], ◌∷◌, Some, None, length, take, true, false, IfOk, OnOk, OnErr};
+ghost use Rattle.std.specs.Prelude.{◌≡◌, ◌-◌, ◌<◌, ℕ, [], ◌∷◌, Some, None, length, take, true, false, IfOk, IfSome, OnOk, OnErr};
 ghost use Rattle.std.specs.Option.{option_map};
 ghost use Rattle.rrc_name.specs.Key.{KeyOf};
 ghost use Rattle.rrc_name.specs.KeyRef.{key_of};
@@ -65,6 +65,13 @@ impl FilteredEntries {
         self.chapter.map()
     }
 
+    /// Counts the octets from now on (`Holdings::count_octets`).
+    pub(crate) fn count_octets(&mut self)
+        ensures { self.new ≡ self.old }
+    {
+        self.chapter.count_octets();
+    }
+
     /// Whether NXDOMAIN or a failure may be cached of a name that has the hash. Where not, no
     /// look-up finds any of these.
     pub(crate) fn may_hold_negative(&self, hash: u64) -> bool
@@ -99,7 +106,7 @@ impl FilteredEntries {
     ) -> Result<(), AllocError>
         requires hash { hash ≡ name_hash self.old.seeded offer.now.key.name }
         requires number { option_map (λ entry. entry.number) (entry_at offer.now.key self.old.entries) ≡ Some replaced.number }
-        requires octets { option_map counted_octets (entry_at offer.now.key self.old.entries) ≡ Some replaced.octets }
+        requires octets { IfSome replaced.octets (λ octets. option_map counted_octets (entry_at offer.now.key self.old.entries) ≡ Some octets) }
         ensures ok { OnOk result (self.new ≡ record self.old { entries = entry_of offer.now number ∷ staying (goes offer.now.key None) self.old.entries }) }
         ensures err { OnErr result (self.new ≡ self.old) }
     {

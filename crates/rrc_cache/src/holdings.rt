@@ -11,13 +11,14 @@ ghost use Rattle.rrc_name.specs.KeyRef.{key_of};
 ghost use Rattle.rrc_name.specs.NameRef.{name_in};
 ghost use Rattle.rrc_history.specs.Octets.{octets_of};
 ghost use Rattle.rrc_history.specs.Past.{entry_of};
-ghost use Rattle.rrc_cache.specs.Counted.{counted_octets, held_octets};
+ghost use Rattle.rrc_cache.specs.Counted.{counted_octets};
 ghost use Rattle.rrc_cache.specs.Keyed.{hashed_entries, name_hash};
 ghost use Rattle.rrc_cache.specs.Pairs.{entries_in, AreOwn};
 
 use crate::clocked::{Aged, Stamped};
 use crate::hashed::HashedKey;
 use crate::keyed::Keyed;
+use crate::octet_count;
 use crate::seeded::Seeded;
 use lru::LruCache;
 use rrc_history::{Entry, Offer};
@@ -25,19 +26,19 @@ use rrc_name::{Key, KeyRef, NameRef};
 use std::alloc::{AllocError, Global};
 use std::marker::Model;
 
-/// Entries by their keys, in the order of touch, and how many octets they have. Each call that
-/// puts, writes over or removes an entry counts its octets, so nobody has to go over all entries to
-/// tell them. Contracts see what they see of a `Keyed`.
+/// Entries by their keys, in the order of touch, and how many octets they have, once these are
+/// counted: from then on each call that puts, writes over or removes an entry counts its octets, so
+/// nobody has to go over all entries to tell them. Contracts see what they see of a `Keyed`.
 #[derive(Debug, Drop)]
 pub struct Holdings {
     keyed: Keyed,
-    /// The octets of all entries, modulo 2^64.
-    octets: u64,
+    /// The octets of all entries, modulo 2^64, or `None` where they are not counted.
+    octets: Option<u64>,
 }
 
 impl Model for Holdings {
-    ghost use Rattle.std.specs.Prelude.{◌≡◌, ◌^◌, ◌%◌};
     ghost use Rattle.rrc_history.specs.Octets.{octets_of};
+    ghost use Rattle.rrc_cache.specs.Counted.{IsCounted};
     ghost use Rattle.rrc_cache.specs.Keyed.{KeyedOf};
     ghost use Rattle.rrc_cache.specs.Pairs.{entries_in};
 
@@ -45,7 +46,7 @@ impl Model for Holdings {
 
     ghost view = { λ h. h.keyed };
 
-    ghost invariant = { λ h. h.octets ≡ octets_of (entries_in h.keyed.map.entries) % 2 ^ 64 };
+    ghost invariant = { λ h. IsCounted h.octets (octets_of (entries_in h.keyed.map.entries)) };
 }
 
 impl Holdings {
@@ -55,15 +56,31 @@ impl Holdings {
     {
         Ok(Holdings {
             keyed: Keyed::new(alloc, seeded)?,
-            octets: 0,
+            octets: None,
         })
     }
 
-    /// The octets of all entries, modulo 2^64. They are counted already.
+    /// The octets of all entries, modulo 2^64. Where they are not counted, it goes over all
+    /// entries.
     pub(crate) fn octets(&self) -> u64
         ensures { result ≡ octets_of (entries_in self.now.map.entries) % 2 ^ 64 }
     {
-        self.octets
+        match self.octets {
+            Some(octets) => octets,
+            None => octet_count::of_all(self.keyed.held()),
+        }
+    }
+
+    /// Counts the octets from now on, and goes over all entries where they were not counted.
+    pub(crate) fn count_octets(&mut self)
+        ensures { self.new ≡ self.old }
+    {
+        self.octets = Some(self.octets());
+    }
+
+    /// Whether the octets are counted.
+    pub(crate) fn counts_octets(&self) -> bool {
+        self.octets.is_some()
     }
 
     /// What names are hashed behind.
@@ -153,7 +170,7 @@ impl Holdings {
         ensures seeded { self.new.seeded ≡ self.old.seeded }
     {
         let gone = self.keyed.pop(hash, key);
-        self.octets = self.octets.wrapping_sub(octets_of_held(&gone));
+        self.octets = octet_count::without(self.octets, &gone);
         gone
     }
 
@@ -164,7 +181,7 @@ impl Holdings {
         ensures seeded { self.new.seeded ≡ self.old.seeded }
     {
         let gone = self.keyed.pop_lru();
-        self.octets = self.octets.wrapping_sub(octets_of_last(&gone));
+        self.octets = octet_count::without_last(self.octets, &gone);
         gone
     }
 
@@ -183,61 +200,32 @@ impl Holdings {
         ensures seeded { self.new.seeded ≡ self.old.seeded }
         ensures err { OnErr result (self.new ≡ self.old) }
     {
-        let came = octets_of(&entry);
+        let octets = octet_count::with(self.octets, &entry);
         let old = self.keyed.push(hash, key, entry)?;
-        let octets = self.octets.wrapping_add(came);
-        self.octets = octets.wrapping_sub(octets_of_held(&old));
+        self.octets = octet_count::without(octets, &old);
         Ok(old)
     }
 
-    /// Writes what an offer stores over the entry of its key, whose octets are told, and moves that
-    /// to the front. An `Err` leaves all as it was.
+    /// Writes what an offer stores over the entry of its key, and moves that to the front. Where
+    /// the octets of that entry are not told, octets are no longer counted. An `Err` leaves all as
+    /// it was.
     pub(crate) fn overwrite(
         &mut self,
         hash: u64,
         offer: &Offer,
         number: u64,
-        replaced: u64,
+        replaced: Option<u64>,
     ) -> Result<(), AllocError>
         requires hash { hash ≡ name_hash self.old.seeded offer.now.key.name }
         requires own { AreOwn self.old.map.entries }
-        requires held { option_map counted_octets (lookup (key_eq offer.now.key) self.old.map.entries) ≡ Some replaced }
+        requires held { IsSome (lookup (key_eq offer.now.key) self.old.map.entries) }
+        requires octets { IfSome replaced (λ octets. option_map counted_octets (lookup (key_eq offer.now.key) self.old.map.entries) ≡ Some octets) }
         ensures ok { OnOk result (self.new.map ≡ lru_cache (put_entries key_eq self.old.map offer.now.key (entry_of offer.now number)) self.old.map.cap) }
         ensures seeded { self.new.seeded ≡ self.old.seeded }
         ensures err { OnErr result (self.new ≡ self.old) }
     {
         self.keyed.overwrite(hash, offer, number)?;
-        let octets = self
-            .octets
-            .wrapping_add(offer.body.octets_under(&offer.key));
-        self.octets = octets.wrapping_sub(replaced);
+        self.octets = octet_count::with_offered(self.octets, offer, replaced);
         Ok(())
-    }
-}
-
-/// The octets of an entry.
-fn octets_of(entry: &Entry) -> u64
-    ensures { result ≡ counted_octets entry.now }
-{
-    entry.body.octets_under(&entry.key)
-}
-
-/// The octets of what a key held, if anything.
-fn octets_of_held(held: &Option<Entry>) -> u64
-    ensures { result ≡ held_octets held.now % 2 ^ 64 }
-{
-    match held {
-        Some(entry) => octets_of(entry),
-        None => 0,
-    }
-}
-
-/// The octets of the last entry, if there is one.
-fn octets_of_last(last: &Option<(Key, Entry)>) -> u64
-    ensures { result ≡ held_octets (option_map (λ pair. pair.1) last.now) % 2 ^ 64 }
-{
-    match last {
-        Some((_, entry)) => octets_of(entry),
-        None => 0,
     }
 }

@@ -24,6 +24,7 @@ mod lean;
 mod lookup;
 mod name_hash;
 mod negative_filter;
+mod octet_count;
 mod opening_tail;
 mod overwriting;
 mod part;

@@ -137,11 +137,21 @@ impl Part {
     }
 
     /// How many octets of memory the keys take (`Body::octets_under`): each entry, its name and
-    /// what it holds, with the room that the heap adds. They are counted already, modulo 2^64.
+    /// what it holds, with the room that the heap adds; modulo 2^64. Where they are not counted
+    /// (`Part::count_octets`), it goes over all keys.
     pub fn octets(&self) -> u64
         ensures { HoldsOctets self.now result }
     {
         self.lean.octets()
+    }
+
+    /// Counts the octets of memory from now on: each call that changes what a key holds then counts
+    /// them, and `octets` tells them at once. The first time it goes over all keys. It takes no
+    /// memory, and the part is as it was.
+    pub fn count_octets(&mut self)
+        ensures { self.new ≡ self.old }
+    {
+        self.lean.count_octets();
     }
 
     /// What a key holds, lent: the body, and the moment and the number of the event that stored it.

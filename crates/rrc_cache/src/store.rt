@@ -1,5 +1,5 @@
 // SPDX-License-Identifier: MIT
-ghost use Rattle.std.specs.Prelude.{◌≡◌, ◌-◌, ◌≤◌, ◌^◌, ◌%◌, [], ◌∷◌, Some, None, length, take, true, false, IfOk, IfSome, OnOk, OnErr};
+ghost use Rattle.std.specs.Prelude.{◌≡◌, ◌-◌, ◌≤◌, ◌^◌, ◌%◌, [], ◌∷◌, Some, None, length, is_some, take, true, false, IfOk, IfSome, OnOk, OnErr};
 ghost use Rattle.rrc_cache.specs.Ages.{ahead_of};
 ghost use Rattle.std.specs.Option.{option_map};
 ghost use Rattle.rrc_name.specs.Key.{KeyOf};
@@ -103,11 +103,23 @@ impl Store {
         self.filtered.map().has_distinct_keys();
     }
 
-    /// The octets of all entries, modulo 2^64. They are counted already.
+    /// The octets of all entries, modulo 2^64 (`Holdings::octets`).
     pub(crate) fn octets(&self) -> u64
         ensures { result ≡ octets_of self.now.entries % 2 ^ 64 }
     {
         self.filtered.map().octets()
+    }
+
+    /// Counts the octets from now on (`Holdings::count_octets`).
+    pub(crate) fn count_octets(&mut self)
+        ensures { self.new ≡ self.old }
+    {
+        self.filtered.count_octets();
+    }
+
+    /// Whether the octets are counted.
+    pub(crate) fn counts_octets(&self) -> bool {
+        self.filtered.map().counts_octets()
     }
 
     pub(crate) fn allocator(&self) -> Global {
@@ -223,7 +235,7 @@ impl Store {
         replaced: Replaced,
     ) -> Result<(), AllocError>
         requires hash { hash ≡ name_hash self.old.seeded offer.now.key.name }
-        requires held { option_map (replaced_of self.old.stale) (entry_at offer.now.key self.old.entries) ≡ Some replaced }
+        requires held { option_map (replaced_of self.old.stale (is_some replaced.octets)) (entry_at offer.now.key self.old.entries) ≡ Some replaced }
         ensures ok { OnOk result (self.new ≡ record self.old { entries = entry_of offer.now number ∷ staying (goes offer.now.key None) self.old.entries }) }
         ensures err { OnErr result (self.new ≡ self.old) }
     {
@@ -264,7 +276,7 @@ impl Store {
         replaced: Replaced,
     ) -> Result<(), AllocError>
         requires hash { hash ≡ name_hash self.old.seeded offer.now.key.name }
-        requires held { option_map (replaced_of self.old.stale) (entry_at offer.now.key self.old.entries) ≡ Some replaced }
+        requires held { option_map (replaced_of self.old.stale (is_some replaced.octets)) (entry_at offer.now.key self.old.entries) ≡ Some replaced }
         ensures ok { OnOk result (self.new ≡ record self.old { entries = entry_of offer.now number ∷ staying (goes offer.now.key None) self.old.entries }) }
         ensures err { OnErr result (self.new ≡ self.old) }
     {

@@ -137,13 +137,24 @@ impl CacheShelf {
         }
     }
 
-    /// How many octets the entries of these keys have (`Part::octets`), modulo 2^64.
+    /// How many octets the entries of these keys have (`LeanPart::octets`), modulo 2^64.
     pub fn octets(&self) -> u64
         ensures { HoldsOctets self.now.shelf.part result }
     {
         match &self.state {
             ShelfState::Lean(part) => part.octets(),
             ShelfState::Recorded(shelf) => shelf.part.octets(),
+        }
+    }
+
+    /// Counts the octets of these keys from now on (`LeanPart::count_octets`). `trim` begins with
+    /// it.
+    pub fn count_octets(&mut self)
+        ensures { self.new ≡ self.old }
+    {
+        match &mut self.state {
+            ShelfState::Lean(part) => part.count_octets(),
+            ShelfState::Recorded(shelf) => shelf.part.count_octets(),
         }
     }
 

@@ -19,7 +19,8 @@ impl CacheShelf {
     /// a TTL of 0 and rank 4. Where that is a failure, which nothing clears, the offer is a failure
     /// of no second, and a sweep at moment 0 removes it. Such a sweep comes first where something
     /// may be held that has no time, and what that removes is not counted. While nothing is
-    /// recorded, that sweep alone may ask for memory.
+    /// recorded, that sweep alone may ask for memory. The first trim goes over all keys, to count
+    /// their octets, and from then on each call counts those that it changes.
     ///
     /// `MomentTooLarge` (above 2^40 seconds) comes first; else the refusals are those of `offer`.
     /// After one of them some keys may be gone. While nothing is recorded, `HistoryFull` says that
@@ -35,6 +36,7 @@ impl CacheShelf {
         if moment > LAST_MOMENT {
             return Err(Refusal::MomentTooLarge);
         }
+        self.count_octets();
         begin(self, tag)?;
         evict(self, tag, moment, limit, most)
     }

@@ -1,6 +1,8 @@
 -- SPDX-License-Identifier: MIT
 use Rattle.std.proofs.Common.{refl, ap, sym, ◌∙◌}
+use Rattle.std.specs.Prelude.{is_some}
 use Rattle.std.specs.Option.{option_map}
+use Rattle.std.proofs.lemmas.Option.{IfSome_then}
 use Rattle.rrc_name.specs.Key.{KeyOf}
 use Rattle.rrc_history.specs.declared.snapshot.Entry.{Entry}
 use Rattle.rrc_history.specs.Past.{entry_at, entry_of}
@@ -17,8 +19,15 @@ overwrite-requires-clause-hash c = c.requires.hash ∙ ap (λ (map : EntriesOf).
 pub overwrite-requires-clause-held : goal.overwrite-requires-clause-held
 overwrite-requires-clause-held c =
     let key : KeyOf = c.args.offer.now.key in
-    ap (option_map counted_octets)
+    ap is_some
     (found_in_pairs key c.self.inside.holdings.map.entries c.self.invariant.own ∙ ap (λ (map : EntriesOf). entry_at key map.entries) c.self.view_is) ∙ c.requires.held
+
+pub overwrite-requires-clause-octets : goal.overwrite-requires-clause-octets
+overwrite-requires-clause-octets c =
+    let key : KeyOf = c.args.offer.now.key in
+    IfSome_then c.args.replaced c.requires.octets (λ octets told.
+    ap (option_map counted_octets)
+    (found_in_pairs key c.self.inside.holdings.map.entries c.self.invariant.own ∙ ap (λ (map : EntriesOf). entry_at key map.entries) c.self.view_is) ∙ told)
 
 pub invariant_of-self-2 : goal.invariant_of-self-2
 invariant_of-self-2 c =

@@ -1,5 +1,6 @@
 -- SPDX-License-Identifier: MIT
 use Rattle.std.proofs.Common.{◌≡◌, ℕ, Bool, nat_le, if◌then◌else◌, List, Option, Some, None, true, false, refl, ap, sym, subst, ◌∙◌}
+use Rattle.std.specs.Prelude.{is_some, IfSome}
 use Rattle.std.specs.Option.{option_map}
 use Rattle.rrc_name.specs.Key.{KeyOf}
 use Rattle.rrc_history.specs.declared.snapshot.Entry.{Entry}
@@ -18,28 +19,37 @@ use Rattle.rrc_cache.proofs.Stored.{edited_queue}
 use Rattle.rrc_cache.proofs.Timed.{queued_before, put_queued, same_queued}
 use Rattle.rrc_cache.proofs.store.Store.replace_queued.Goals as goal
 
+-- octets that are told are those of the entry
+its : (counts : Bool) (octets told : ℕ) → (if counts then Some octets else None) ≡ Some told → octets ≡ told
+its true octets told is = cc
+its false octets told is = absurd cc
+
 -- what is told of the entry that is replaced
-module _ (stale : ℕ) (found : Option Entry) (replaced : Replaced) (told : option_map (replaced_of stale) found ≡ Some replaced) where
-  its_octets : option_map counted_octets found ≡ Some replaced.octets
-  its_octets = by found told
+module _ (stale : ℕ) (found : Option Entry) (replaced : Replaced) (told : option_map (replaced_of stale (is_some replaced.octets)) found ≡ Some replaced) where
+  its_octets : IfSome replaced.octets (λ octets. option_map counted_octets found ≡ Some octets)
+  its_octets = by replaced.octets refl found told
     where
-      by : (f : Option Entry) → option_map (replaced_of stale) f ≡ Some replaced → option_map counted_octets f ≡ Some replaced.octets
-      by None is = absurd cc
-      by (Some entry) is = let same : replaced_of stale entry ≡ replaced = cc in ap (λ (r : Replaced). Some r.octets) same
+      by : (o : Option ℕ) → replaced.octets ≡ o → (f : Option Entry) → option_map (replaced_of stale (is_some replaced.octets)) f ≡ Some replaced
+          → IfSome o (λ octets. option_map counted_octets f ≡ Some octets)
+      by None at f is = tt
+      by (Some octets) at None is = absurd cc
+      by (Some octets) at (Some entry) is =
+          let same : replaced_of stale (is_some replaced.octets) entry ≡ replaced = cc in
+          ap Some (its (is_some replaced.octets) (counted_octets entry) octets (ap (λ (r : Replaced). r.octets) same ∙ at))
 
   its_number : option_map (λ entry. entry.number) found ≡ Some replaced.number
   its_number = by found told
     where
-      by : (f : Option Entry) → option_map (replaced_of stale) f ≡ Some replaced → option_map (λ entry. entry.number) f ≡ Some replaced.number
+      by : (f : Option Entry) → option_map (replaced_of stale (is_some replaced.octets)) f ≡ Some replaced → option_map (λ entry. entry.number) f ≡ Some replaced.number
       by None is = absurd cc
-      by (Some entry) is = let same : replaced_of stale entry ≡ replaced = cc in ap (λ (r : Replaced). Some r.number) same
+      by (Some entry) is = let same : replaced_of stale (is_some replaced.octets) entry ≡ replaced = cc in ap (λ (r : Replaced). Some r.number) same
 
   its_expiry : (time : ℕ) → is_expired_by stale time found ≡ nat_le replaced.expires time
   its_expiry time = by found told
     where
-      by : (f : Option Entry) → option_map (replaced_of stale) f ≡ Some replaced → is_expired_by stale time f ≡ nat_le replaced.expires time
+      by : (f : Option Entry) → option_map (replaced_of stale (is_some replaced.octets)) f ≡ Some replaced → is_expired_by stale time f ≡ nat_le replaced.expires time
       by None is = absurd cc
-      by (Some entry) is = let same : replaced_of stale entry ≡ replaced = cc in ap (λ (r : Replaced). nat_le r.expires time) same
+      by (Some entry) is = let same : replaced_of stale (is_some replaced.octets) entry ≡ replaced = cc in ap (λ (r : Replaced). nat_le r.expires time) same
 
 -- an expiry waits only where the one that is replaced expires later
 none_waits : (b : Bool) (expiry : Expiry) → (if b then None else Some expiry) ≡ None → b ≡ true
@@ -56,13 +66,13 @@ overwrite-requires-clause-hash c = c.requires.hash ∙ ap (λ (store : StoreOf).
 pub overwrite-requires-clause-number : goal.overwrite-requires-clause-number
 overwrite-requires-clause-number c =
     let key : KeyOf = c.args.offer.now.key in
-    let told = subst (λ (store : StoreOf). option_map (replaced_of store.stale) (entry_at key store.entries) ≡ Some c.args.replaced) (sym c.self.view_is) c.requires.held in
+    let told = subst (λ (store : StoreOf). option_map (replaced_of store.stale (is_some c.args.replaced.octets)) (entry_at key store.entries) ≡ Some c.args.replaced) (sym c.self.view_is) c.requires.held in
     its_number c.self.inside.stale (entry_at key c.self.inside.filtered.entries) c.args.replaced told
 
 pub overwrite-requires-clause-octets : goal.overwrite-requires-clause-octets
 overwrite-requires-clause-octets c =
     let key : KeyOf = c.args.offer.now.key in
-    let told = subst (λ (store : StoreOf). option_map (replaced_of store.stale) (entry_at key store.entries) ≡ Some c.args.replaced) (sym c.self.view_is) c.requires.held in
+    let told = subst (λ (store : StoreOf). option_map (replaced_of store.stale (is_some c.args.replaced.octets)) (entry_at key store.entries) ≡ Some c.args.replaced) (sym c.self.view_is) c.requires.held in
     its_octets c.self.inside.stale (entry_at key c.self.inside.filtered.entries) c.args.replaced told
 
 pub invariant_of-self-in-Some : goal.invariant_of-self-in-Some
@@ -86,7 +96,7 @@ invariant_of-self-in_default c =
     let entry : Entry = entry_of c.args.offer.now c.args.number in
     let found : Option Entry = entry_at entry.key entries in
     let are : AreQueued stale entries c.reserve.new.self = same_queued stale entries c.self.inside.queue c.reserve.new.self c.reserve.ensures.same c.self.invariant.queued in
-    let told = subst (λ (store : StoreOf). option_map (replaced_of store.stale) (entry_at entry.key store.entries) ≡ Some c.args.replaced) (sym c.self.view_is) c.requires.held in
+    let told = subst (λ (store : StoreOf). option_map (replaced_of store.stale (is_some c.args.replaced.octets)) (entry_at entry.key store.entries) ≡ Some c.args.replaced) (sym c.self.view_is) c.requires.held in
     let time : c.full_expiry-time.result ≡ full_expiry_of stale entry = c.full_expiry-time.ensures ∙ ap (λ (offer : OfferOf). full_expiry stale offer.body offer.moment) c.offer.view_is in
     let expiry : Expiry = record { time = c.full_expiry-time.result; key = c.offer.inside.key } in
     let early : nat_le c.args.replaced.expires c.full_expiry-time.result ≡ true =
