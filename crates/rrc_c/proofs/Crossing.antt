@@ -11,7 +11,7 @@ use Rattle.std.specs.Global.{Global}
 use Rattle.std.proofs.Crossing as heap
 use Rattle.std_alloc.proofs.SendSync.{lies}
 use Rattle.std_heap.specs.contracts.GlobalAllocator.TheImpl.{ghosts}
-use Rattle.rrc_c.specs.Sealed.{sealed_owns}
+use Rattle.rrc_c.specs.Handles.{sealed_owns}
 
 pub crosses : (R : RattleType) → IsSend R → (alloc : Global) (at : Ptr) (held : Option R.Denot) → Keyless (sealed_owns (ghosts.dealloc_token alloc) R at held)
 crosses R send alloc at None = tt

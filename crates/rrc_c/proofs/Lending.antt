@@ -16,7 +16,7 @@ use denote.Shares.{Shares-less}
 use denote.Struct.Lending.{lent_at, lent_at_shr_laws, Lends, Lends-lies, Lends-first}
 use Rattle.rrc_share.specs.contracts.cache_shelf.CacheShelf.{the_row as T}
 use Rattle.rrc_share.proofs.cache_shelf.CacheShelf.TheLaws.{the_row_laws as L}
-use Rattle.rrc_c.specs.Looked.{glance_owns}
+use Rattle.rrc_c.specs.Handles.{glance_owns}
 
 module _ {M : Type 1} {𝓤 : Ura M} (𝓛 : Logic 𝓤) (at : Ptr) (shelf : T.Denot) where
   open 𝓛 use {H, A}

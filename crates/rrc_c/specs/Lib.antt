@@ -1,5 +1,3 @@
 -- SPDX-License-Identifier: MIT
-pub mod Sealed
-pub mod Boxed
 pub mod Handles
-pub mod Looked
+pub mod Boxed

@@ -1,14 +1,11 @@
 // SPDX-License-Identifier: MIT
 ghost use Rattle.std.specs.Prelude.{◌≡◌, ◌↔◌, length, None, IfSome, IsSomeAnd};
-ghost use Rattle.rrc_shelf.specs.Statuses.{number_of_reply, OnDone, OnRefused, OnSmall, OnUntold};
+ghost use Rattle.rrc_shelf.specs.Checks.{number_of_reply, OnDone, OnRefused, OnSmall, OnUntold, Passes};
 ghost use Rattle.rrc_c.specs.Handles.{BothHold, BothOrNone};
 ghost use Rattle.rrc_c.specs.declared.handle_status.TheConstants.{NO_SHELF};
 ghost use Rattle.rrc_shelf.specs.Shelves.{IsLeftAs};
-ghost use Rattle.rrc_shelf.specs.Aliases.{ask_or_alias};
-ghost use Rattle.rrc_shelf.specs.Asks.{asked, Answers, TellsReply, TellsSizeOf};
-ghost use Rattle.rrc_shelf.specs.Checks.{Passes};
+ghost use Rattle.rrc_shelf.specs.Asks.{ask_or_alias, asked, Answers, TellsHeld, TellsReply, TellsSizeOf};
 ghost use Rattle.rrc_shelf.specs.Refusals.{AskDue, PeekDue, StoredDue, question_checks};
-ghost use Rattle.rrc_shelf.specs.Stored.{TellsHeld};
 
 use crate::handle_status::NO_SHELF;
 use crate::look::ShelfLook;

@@ -5,7 +5,7 @@ ghost use Rattle.std.specs.Prelude.{◌≡◌, Option, None, Some, IsSome, is_so
 ghost use Rattle.std.specs.Borrow.{sem};
 ghost use Rattle.std.specs.Option.{option_map};
 ghost use Rattle.std_heap.specs.contracts.GlobalAllocator.TheImpl.{ghosts};
-ghost use Rattle.rrc_c.specs.Sealed.{sealed_owns};
+ghost use Rattle.rrc_c.specs.Handles.{sealed_owns};
 
 use std::alloc::Global;
 use std::marker::Model;

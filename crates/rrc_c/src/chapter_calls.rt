@@ -1,9 +1,8 @@
 // SPDX-License-Identifier: MIT
 ghost use Rattle.std.specs.Prelude.{◌≡◌, ◌↔◌, None, Some, IfNone, IfOk, OnErr, OnSome, length, IsSomeAnd, IfSome};
-ghost use Rattle.rrc_shelf.specs.Chapters.{LineDue, StopDue, StopsRecord, TakesClosed, TellsLine};
+ghost use Rattle.rrc_shelf.specs.Upkeep.{LineDue, StopDue, StopsRecord, TakesClosed, TellsLine};
 ghost use Rattle.rrc_c.specs.Handles.{BothHold};
-ghost use Rattle.rrc_shelf.specs.Checks.{IsDoneOrMemory};
-ghost use Rattle.rrc_shelf.specs.Statuses.{number_of_call, OnDone, OnRefused};
+ghost use Rattle.rrc_shelf.specs.Checks.{number_of_call, IsDoneOrMemory, OnDone, OnRefused};
 ghost use Rattle.rrc_c.specs.declared.handle_status.TheConstants.{HAS_CHAPTERS, NO_CHAPTERS, NO_SHELF};
 
 use crate::chapters::Chapters;

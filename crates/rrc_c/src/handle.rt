@@ -4,7 +4,7 @@ ghost use Rattle.std.specs.Borrow.{sem};
 ghost use Rattle.std.specs.Coded.{coded_option};
 ghost use Rattle.std.specs.Option.{option_map};
 ghost use Rattle.std_heap.specs.contracts.GlobalAllocator.TheImpl.{ghosts};
-ghost use Rattle.rrc_c.specs.Sealed.{sealed_owns};
+ghost use Rattle.rrc_c.specs.Handles.{sealed_owns};
 ghost use Rattle.rrc_share.specs.contracts.cache_shelf.CacheShelf.{the_row};
 
 use crate::boxed::Boxed;

@@ -1,12 +1,10 @@
 // SPDX-License-Identifier: MIT
 ghost use Rattle.std.specs.Prelude.{◌≡◌, ◌↔◌, None, IfSome};
-ghost use Rattle.rrc_shelf.specs.Statuses.{number_of_call, OnDone, OnRefused};
+ghost use Rattle.rrc_shelf.specs.Checks.{number_of_call, Due, OnDone, OnRefused, Passes};
 ghost use Rattle.rrc_c.specs.Handles.{BothHold, BothOrNone};
 ghost use Rattle.rrc_c.specs.declared.handle_status.TheConstants.{NO_SHELF};
 ghost use Rattle.rrc_shelf.specs.Shelves.{IsLeftAs};
-ghost use Rattle.rrc_shelf.specs.Intake.{denial_offer, failure_offer, whole, TakesMessage, TakesOne, TakesSet, TakesSome};
-ghost use Rattle.rrc_shelf.specs.Checks.{Due, Passes};
-ghost use Rattle.rrc_shelf.specs.PartIntake.{own_share, part_checks};
+ghost use Rattle.rrc_shelf.specs.Offers.{denial_offer, failure_offer, own_share, part_checks, whole, TakesMessage, TakesOne, TakesSet, TakesSome};
 ghost use Rattle.rrc_shelf.specs.Refusals.{denial_checks, failure_checks, message_checks, set_checks, WriteDue};
 
 use crate::handle_status::NO_SHELF;

@@ -1,13 +1,10 @@
 // SPDX-License-Identifier: MIT
 ghost use Rattle.std.specs.Prelude.{◌≡◌, ◌⊎◌, ◌↔◌, drop, length, None, true, false, IfNone, IfSome, IsSomeAnd, OnSome};
 ghost use Rattle.std.specs.Option.{option_and_then};
-ghost use Rattle.rrc_shelf.specs.Offered.{offer_in, OfferDue, OneDue, TakesOffer, TellsOfferOr};
+ghost use Rattle.rrc_shelf.specs.Offers.{offer_in, OfferDue, TellsOfferOr};
+ghost use Rattle.rrc_shelf.specs.Readings.{parts_below, reading_checks, share_checks, IsOtherAtLast, IsReading, IsResponseReading, OneDue, ResponseRefused, SummaryDue, TakesOffer, TakesShare, TakesSomeOfShare, TellsSummary};
 ghost use Rattle.rrc_c.specs.Handles.{BothHold, BothOrNone};
-ghost use Rattle.rrc_shelf.specs.Checks.{Passes, Refuses};
-ghost use Rattle.rrc_shelf.specs.Readings.{parts_below, reading_checks, share_checks, IsReading, TakesShare, TakesSomeOfShare};
-ghost use Rattle.rrc_shelf.specs.Responses.{IsOtherAtLast, IsResponseReading, ResponseRefused};
-ghost use Rattle.rrc_shelf.specs.Summaries.{SummaryDue, TellsSummary};
-ghost use Rattle.rrc_shelf.specs.Statuses.{OnDone, OnRefused, OnSmall, OnUntold};
+ghost use Rattle.rrc_shelf.specs.Checks.{OnDone, OnRefused, OnSmall, OnUntold, Passes, Refuses};
 ghost use Rattle.rrc_c.specs.declared.handle_status.TheConstants.{HAS_OFFERS, NO_SHELF, OTHER_QUERY};
 ghost use Rattle.rrc_shelf.specs.declared.status.TheConstants.{NO_OFFERS};
 ghost use Rattle.rrc_shelf.specs.Shelves.{IsLeftAs};

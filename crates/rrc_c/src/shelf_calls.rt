@@ -1,10 +1,9 @@
 // SPDX-License-Identifier: MIT
 ghost use Rattle.std.specs.Prelude.{◌≡◌, ◌↔◌, None, IfNone, IsSomeAnd, OnSome};
-ghost use Rattle.rrc_shelf.specs.Statuses.{OnDone, OnRefused};
+ghost use Rattle.rrc_shelf.specs.Checks.{Due, IsDoneOrMemory, OnDone, OnRefused};
 ghost use Rattle.rrc_c.specs.declared.handle_status.TheConstants.{HAS_SHELF, NO_SHELF};
-ghost use Rattle.rrc_shelf.specs.Checks.{Due, IsDoneOrMemory};
 ghost use Rattle.rrc_shelf.specs.Refusals.{rules_checks};
-ghost use Rattle.rrc_shelf.specs.NewShelf.{IsNew};
+ghost use Rattle.rrc_shelf.specs.Shelves.{IsNew};
 
 use crate::handle_status::{HAS_SHELF, NO_SHELF};
 use crate::shelf_handle::ShelfHandle;

@@ -1,7 +1,7 @@
 // SPDX-License-Identifier: MIT
 ghost use Rattle.std.specs.Prelude.{◌≡◌, ℕ, Option, None, Some, IsSome};
 ghost use Rattle.std.specs.Coded.{coded_option};
-ghost use Rattle.rrc_c.specs.Looked.{glance_owns, glance_shares, sight_owns};
+ghost use Rattle.rrc_c.specs.Handles.{glance_owns, glance_shares, sight_owns};
 ghost use Rattle.rrc_share.specs.contracts.cache_shelf.CacheShelf.{the_row};
 
 use rrc_share::CacheShelf;

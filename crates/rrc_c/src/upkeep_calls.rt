@@ -1,15 +1,12 @@
 // SPDX-License-Identifier: MIT
 ghost use Rattle.std.specs.Prelude.{◌≡◌, ◌↔◌, drop, None, IfSome, IsSomeAnd};
-ghost use Rattle.rrc_shelf.specs.Statuses.{number_of_call, OnDone, OnRefused};
-ghost use Rattle.rrc_shelf.specs.Folding.{FoldingDue, IsFoldedName};
+ghost use Rattle.rrc_shelf.specs.Checks.{number_of_call, OnDone, OnRefused, OutOfMemory};
+ghost use Rattle.rrc_shelf.specs.Refusals.{FoldingDue, IsFoldedName, RecordDue, WriteDue};
 ghost use Rattle.rrc_c.specs.Handles.{BothHold, BothOrNone};
 ghost use Rattle.rrc_c.specs.declared.handle_status.TheConstants.{NO_SHELF};
-ghost use Rattle.rrc_shelf.specs.Checks.{OutOfMemory};
-ghost use Rattle.rrc_shelf.specs.Refusals.{RecordDue, WriteDue};
 ghost use Rattle.rrc_shelf.specs.Shelves.{DropsRecord, IsLeftAs, MakesSweep, StartsRecord};
-ghost use Rattle.rrc_shelf.specs.SweepSteps.{SweepsSome, SweepsUntil};
-ghost use Rattle.rrc_shelf.specs.Trims.{TrimsShelf, TrimsUntil};
-ghost use Rattle.rrc_shelf.specs.Upkeep.{DropsChapters, IsNextExpiry, TellsFault, TellsSizes};
+ghost use Rattle.rrc_shelf.specs.Upkeep.{DropsChapters, IsNextExpiry, SweepsSome, SweepsUntil, TellsSizes, TrimsShelf, TrimsUntil};
+ghost use Rattle.rrc_shelf.specs.Offers.{TellsFault};
 
 use crate::handle_status::NO_SHELF;
 use crate::look::ShelfLook;

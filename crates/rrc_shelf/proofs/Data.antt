@@ -6,7 +6,7 @@ use Rattle.std.specs.List.{AllByRecursion}
 use Rattle.rrc_wire.specs.Plain.{IsPlain}
 use Rattle.rrc_shelf.specs.Checks.{memory, unless, Refuses}
 use Rattle.rrc_shelf.specs.Refusals.{AreData}
-use Rattle.rrc_shelf.specs.ReplyRecord.{datum, data_text}
+use Rattle.rrc_shelf.specs.Asks.{datum, data_text}
 use Rattle.rrc_shelf.specs.declared.status.Status.TheVariants.{BadData}
 
 -- what stands before of the same length is the same, and so is what stands behind

@@ -3,7 +3,7 @@
 use Rattle.std.proofs.Common.{◌≡◌, ℕ, ◌+◌, ◌≤◌, List, [], ◌∷◌, ◌++◌, length, take, drop, get_or, sym, ap, subst, ◌∙◌, append_assoc, append-nil, arith, ◌/◌, ◌%◌, ◌<◌, zero, suc, not-suc-le-zero, le_of_suc-le-suc}
 use Rattle.std.proofs.lemmas.List.{take_at, take_more, length-append, drop-drop}
 use Rattle.std.proofs.Math.Seq.{drop-append-add}
-use Rattle.rrc_shelf.specs.ReplyRecord.{datum, data_text, AreNarrow, IsFilled, WritesOn}
+use Rattle.rrc_shelf.specs.Asks.{datum, data_text, AreNarrow, IsFilled, WritesOn}
 
 -- what stands behind the next piece
 behind : (before text : List ℕ) (n : ℕ) → drop (length text + n) (text ++ drop (length text) before) ≡ drop (length text + n) before

@@ -11,8 +11,8 @@ use Rattle.rrc_sets.specs.declared.query.QueryFault.{QueryFault}
 use Rattle.rrc_sets.specs.declared.query.QueryFault.TheVariants.{OtherIdentifier, IsQuery, OtherQuestion, NoQuestion, NoResponse, Memory}
 use Rattle.rrc_sets.specs.Queries.{front_mismatch, header_mismatch, identifier_mismatch, is_same_question, mismatch, refuses_alone}
 use Rattle.rrc_sets.specs.RelevantMessage.{IsNoResponse, IsOfOtherQuery, by_front, by_message}
-use Rattle.rrc_shelf.specs.Responses.{AnswerRefused, IsOther}
-use Rattle.rrc_shelf.specs.Statuses.{number_of}
+use Rattle.rrc_shelf.specs.Readings.{AnswerRefused, IsOther}
+use Rattle.rrc_shelf.specs.Checks.{number_of}
 use Rattle.rrc_shelf.specs.declared.status.Status.TheVariants as statuses
 
 -- whether a fault is that octets cannot be read

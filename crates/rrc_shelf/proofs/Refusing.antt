@@ -11,11 +11,10 @@ use Rattle.rrc_cache.specs.declared.refusal.Refusal.{Refusal}
 use Rattle.rrc_cache.specs.declared.refusal.Refusal.TheVariants as Refusals
 use Rattle.rrc_share.specs.CacheShelf.{CacheShelfOf, IsDueBy}
 use Rattle.rrc_history.specs.Lives.{LAST_MOMENT}
-use Rattle.rrc_shelf.specs.Checks.{unless, Check, Due, IsDone, IsDoneOrMemory}
+use Rattle.rrc_shelf.specs.Checks.{number_of, number_of_call, refused_as, unless, Check, Due, IsDone, IsDoneOrMemory}
 use Rattle.rrc_shelf.specs.Refusals.{NoteDue, WriteDue}
 use Rattle.rrc_shelf.specs.Shelves.{CanWriteBy, IsSpentBy}
-use Rattle.rrc_shelf.specs.Statuses.{number_of, number_of_call, refused_as}
-use Rattle.rrc_shelf.specs.ReplyRecord.{data_text, AreNarrow, AreTellable}
+use Rattle.rrc_shelf.specs.Asks.{data_text, AreNarrow, AreTellable}
 use Rattle.rrc_shelf.specs.declared.status.Status.{Status}
 use Rattle.rrc_shelf.specs.declared.status.Status.TheVariants.{HistoryFull, MomentTooLarge}
 use Rattle.rrc_shelf.proofs.Filling.{narrow_next}

@@ -10,9 +10,8 @@ use Rattle.rrc_name.specs.declared.slot.Slot.TheVariants.{Set}
 use Rattle.rrc_history.specs.Fits.{fits, has_items, is_lifetime, is_set}
 use Rattle.rrc_history.specs.declared.body.Body.TheVariants.{Positive}
 use Rattle.rrc_history.specs.declared.body.Trust.{Trust}
-use Rattle.rrc_shelf.specs.Checks.{unless, Refuses}
-use Rattle.rrc_shelf.specs.ReplyRecord.{data_text}
-use Rattle.rrc_shelf.specs.Statuses.{number_of}
+use Rattle.rrc_shelf.specs.Checks.{number_of, unless, Refuses}
+use Rattle.rrc_shelf.specs.Asks.{data_text}
 use Rattle.rrc_shelf.specs.declared.status.Status.TheVariants.{WrongBody}
 
 pub on_ok : {A E : Type 0} (result : Result A E) (P Q : Type 0) → (P → Q) → OnOk result P → OnOk result Q

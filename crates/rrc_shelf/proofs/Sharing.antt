@@ -6,10 +6,9 @@ use Rattle.std.proofs.Math.Pow.{pow_mono}
 use Rattle.std.proofs.lemmas.List.Elements.{All-filter, All-map}
 use Rattle.std.specs.List.{All}
 use Rattle.rrc_history.specs.Fits.{OfferOf}
-use Rattle.rrc_shelf.specs.Intake.{AreAt, AreOffered, TakesAll, TakesFirst}
+use Rattle.rrc_shelf.specs.Offers.{lying_in, part_checks, AreAt, AreOffered, IsPart, TakesAll, TakesFirst}
 use Rattle.rrc_shelf.specs.Checks.{Passes}
-use Rattle.rrc_shelf.specs.PartIntake.{lying_in, part_checks, IsPart}
-use Rattle.rrc_shelf.specs.Parts.{keyed_part_of}
+use Rattle.rrc_shelf.specs.Shelves.{keyed_part_of}
 use Rattle.rrc_shelf.specs.Readings.{bit_of, has_part, parts_below, placed_in, share_checks, share_of, terms_of_share, HoldsOffers, IsReading, RefusedShareIsPart, ShareIsPart}
 use Rattle.rrc_shelf.specs.declared.reading.Placed.{Placed}
 use Rattle.rrc_shelf.specs.declared.reading.Reading.{Reading}

@@ -4,7 +4,7 @@ use Rattle.std.proofs.Common.{◌≡◌, ℕ, ◌+◌, ◌-◌, ◌^◌, ◌<◌
 use Rattle.std.specs.Prelude.{min}
 use Rattle.rrc_share.specs.CacheShelf.{CacheShelfOf}
 use Rattle.rrc_shelf.specs.Shelves.{MakesSweep}
-use Rattle.rrc_shelf.specs.SweepSteps.{StepOf, SweepsTo}
+use Rattle.rrc_shelf.specs.Upkeep.{StepOf, SweepsTo}
 use Rattle.rrc_shelf.specs.declared.terms.SweepTerms.{SweepTerms}
 
 -- so many sweeps were made

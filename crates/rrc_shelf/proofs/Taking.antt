@@ -10,7 +10,7 @@ use Rattle.rrc_share.specs.CacheShelf.{CacheShelfOf}
 use Rattle.rrc_shelf.specs.declared.counts.Counts.{Counts}
 use Rattle.rrc_shelf.specs.Refusals.{WriteDue}
 use Rattle.rrc_shelf.specs.Shelves.{IsLeftAs, MakesOffer}
-use Rattle.rrc_shelf.specs.Intake.{AreAt, Takes, TakesAll, TakesFirst, count_more, total}
+use Rattle.rrc_shelf.specs.Offers.{AreAt, Takes, TakesAll, TakesFirst, count_more, total}
 
 -- one more is counted
 pub total_more : (outcome : Outcome) (counts : Counts) → total (count_more outcome counts) ≡ total counts + 1

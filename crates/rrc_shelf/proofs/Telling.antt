@@ -14,8 +14,7 @@ use Rattle.rrc_history.specs.lemmas.EntryLaws.{entry_at-key}
 use Rattle.rrc_name.specs.Key.{KeyOf}
 use Rattle.rrc_name.specs.Wire.{labels_within, wire_of, IsWireForm}
 use Rattle.rrc_share.specs.CacheShelf.{CacheShelfOf, held_by}
-use Rattle.rrc_shelf.specs.Asks.{TellsEntry, TellsRecord}
-use Rattle.rrc_shelf.specs.ReplyRecord.{record_of, told_of}
+use Rattle.rrc_shelf.specs.Asks.{record_of, told_of, TellsEntry, TellsRecord}
 use Rattle.rrc_shelf.specs.declared.entry_record.EntryRecord.{EntryRecord}
 use Rattle.rrc_shelf.specs.declared.reply_record.ReplyRecord.{ReplyRecord}
 

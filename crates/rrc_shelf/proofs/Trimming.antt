@@ -5,9 +5,8 @@ use Rattle.rrc_cache.specs.declared.refusal.Refusal.{Refusal}
 use Rattle.rrc_cache.specs.declared.refusal.Refusal.TheVariants.{HistoryFull, MomentTooLarge, Memory}
 use Rattle.rrc_share.specs.CacheShelf.{CacheShelfOf}
 use Rattle.rrc_share.specs.Trims.{IsLeanRefusal, IsTrimDue}
-use Rattle.rrc_shelf.specs.Statuses.{number_of, refused_as}
-use Rattle.rrc_shelf.specs.Checks.{Passes}
-use Rattle.rrc_shelf.specs.Trims.{trim_checks, GoesOn, TrimsUntil}
+use Rattle.rrc_shelf.specs.Checks.{number_of, refused_as, Passes}
+use Rattle.rrc_shelf.specs.Upkeep.{trim_checks, GoesOn, TrimsUntil}
 use Rattle.rrc_shelf.specs.declared.terms.TrimTerms.{TrimTerms}
 
 pub stops : (trim : TrimTerms) (old new : CacheShelfOf) (refusal : Refusal) → Passes (trim_checks trim) → GoesOn trim old new → IsTrimDue {A = ℕ} trim.moment (Err refusal)

@@ -1,29 +1,27 @@
 -- SPDX-License-Identifier: MIT
 -- The checks of each call, in order, and when each call is refused.
-use Rattle.std.specs.Prelude.{◌≡◌, ℕ, ◌^◌, ◌<◌, ◌≤◌, List, [], ◌∷◌, length, true, false, not, ◌&&◌, Bool, if◌then◌else◌, ◌==◌}
-use Rattle.std.specs.List.{AllByRecursion, list_any}
-use Rattle.rrc_name.specs.Wire.{IsWireForm}
+use Rattle.std.specs.Prelude.{◌≡◌, ℕ, ◌^◌, ◌<◌, ◌≤◌, ◌==◌, Bool, true, false, not, ◌&&◌, if◌then◌else◌, List, [], ◌∷◌, ◌++◌, length}
+use Rattle.std.specs.List.{list_any, AllByRecursion}
+use Rattle.rrc_name.specs.Wire.{folded, IsWireForm}
 use Rattle.rrc_name.specs.WireFault.{IsFirstFaultOfWire}
 use Rattle.rrc_name.specs.declared.fault.WireNameFault.{WireNameFault}
-use Rattle.rrc_wire.specs.Grammar.{MessageOf}
-use Rattle.rrc_wire.specs.Layout.{is_kept_class, is_kept}
-use Rattle.rrc_wire.specs.Plain.{IsPlain}
 use Rattle.rrc_wire.specs.FirstFault.{FirstFault}
+use Rattle.rrc_wire.specs.Grammar.{MessageOf}
+use Rattle.rrc_wire.specs.Layout.{is_kept, is_kept_class}
+use Rattle.rrc_wire.specs.Plain.{IsPlain}
 use Rattle.rrc_wire.specs.declared.fault.WireFault.{WireFault}
 use Rattle.rrc_wire.specs.declared.message.Message.{Message}
 use Rattle.rrc_history.specs.Asked.{AskOf}
-use Rattle.rrc_history.specs.Lives.{LAST_MOMENT}
-use Rattle.rrc_history.specs.Limits.{MayBeRules}
 use Rattle.rrc_history.specs.Fits.{is_lifetime}
+use Rattle.rrc_history.specs.Limits.{MayBeRules}
+use Rattle.rrc_history.specs.Lives.{LAST_MOMENT}
 use Rattle.rrc_history.specs.declared.event.Reply.{Reply}
 use Rattle.rrc_sets.specs.Limits.{MayBeLimits}
 use Rattle.rrc_cache.specs.Part.{PartOf}
 use Rattle.rrc_share.specs.CacheShelf.{CacheShelfOf}
-use Rattle.rrc_shelf.specs.Asks.{reply_of, AreChoices}
-use Rattle.rrc_shelf.specs.Checks.{memory, unless, Check, Due, IsDone, IsDoneOrMemory}
-use Rattle.rrc_shelf.specs.Shelves.{CanWriteBy, IsSpentBy}
-use Rattle.rrc_shelf.specs.Statuses.{number_of}
-use Rattle.rrc_shelf.specs.ReplyRecord.{data_text, fields_of, text_of, AreTellable}
+use Rattle.rrc_shelf.specs.Asks.{data_text, fields_of, octets_of, reply_of, text_of, AreChoices, AreTellable}
+use Rattle.rrc_shelf.specs.Checks.{memory, number_of, unless, Check, Due, IsDone, IsDoneOrMemory}
+use Rattle.rrc_shelf.specs.Shelves.{keyed_part_of, CanWriteBy, IsSpentBy}
 use Rattle.rrc_shelf.specs.declared.counts.Bounds.{Bounds}
 use Rattle.rrc_shelf.specs.declared.folded_name.FoldedName.{FoldedName}
 use Rattle.rrc_shelf.specs.declared.status.Status.TheVariants.{HistoryFull, MomentTooLarge, BadRules, BadSeed, BadLimits, BadName, BadMessage, BadChoice, BadType, BadData, WrongBody, WideAnswer, OtherSeed}
@@ -64,6 +62,20 @@ rules_checks rules = unless BadRules (MayBeRules rules.capacity rules.chapter ru
 -- the checks of a division of names: into 1 to 64 parts, under a seed
 abbrev pub division_checks : Division → List Check
 division_checks division = unless BadRules ((1 ≤ division.count) × (division.count ≤ 64)) ∷ unless BadSeed (is_seed division.seed ≡ true) ∷ []
+
+-- ---- a name as C is handed it
+
+-- the name is this one, folded and hashed under the seed of a division, with the part that it lies
+-- in
+pub record IsFoldedName (octets : List ℕ) (division : Division) (name : FoldedName) : Type 0 where
+  pub made : 1 ≤ name.size
+  pub octets_are : octets_of name ≡ folded octets
+  pub seed_is : name.seed ≡ division.seed
+  pub part_is : name.part ≡ keyed_part_of division.seed octets division.count
+
+-- when a name is made, and when that is refused with what: never for want of memory
+abbrev pub FoldingDue : List ℕ → Division → ℕ → Type 0
+FoldingDue octets division = Due (division_checks division ++ (wire_check octets ∷ [])) IsDone
 
 -- ---- events
 

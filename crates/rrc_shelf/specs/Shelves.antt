@@ -1,18 +1,51 @@
 -- SPDX-License-Identifier: MIT
--- What calls leave of a shelf, whether its history is recorded or not: it stays as it is, and only
--- rrc_record, rrc_stop_and_drop and rrc_stop_recording change it.
-use Rattle.std.specs.Prelude.{◌≡◌, ℕ, ◌^◌, ◌<◌, ◌≤◌, Bool, true, false, length, if◌then◌else◌}
+-- Which part of many a name lies in, a shelf that was made, and what calls leave of a shelf.
+use Rattle.std.specs.Prelude.{◌≡◌, ℕ, ◌/◌, ◌%◌, ◌^◌, ◌<◌, ◌≤◌, Bool, true, false, if◌then◌else◌, List, length}
+use Rattle.rrc_name.specs.Key.{IsFolded}
+use Rattle.rrc_name.specs.Wire.{folded, IsWireForm}
 use Rattle.rrc_history.specs.Asked.{AskOf}
 use Rattle.rrc_history.specs.Fits.{OfferOf}
+use Rattle.rrc_history.specs.Limits.{RulesAre}
 use Rattle.rrc_history.specs.declared.event.Outcome.{Outcome}
 use Rattle.rrc_history.specs.declared.event.Reply.{Reply}
 use Rattle.rrc_history.specs.declared.event.Tag.{Tag}
-use Rattle.rrc_cache.specs.Part.{PartOf, next_number}
-use Rattle.rrc_share.specs.CacheShelf.{CacheShelfOf, lean_shelf, IsLeftBy, TakesAsk, TakesOffer, TakesSweep}
-use Rattle.rrc_share.specs.Shelf.{ShelfOf, CanWrite, IsShelfSpent}
+use Rattle.rrc_history.specs.declared.rules.Rules.{Rules}
+use Rattle.rrc_cache.specs.Lean.{first_chapter}
+use Rattle.rrc_cache.specs.Part.{next_number, PartOf}
+use Rattle.rrc_cache.specs.Seeds.{keyed_hash}
+use Rattle.rrc_share.specs.CacheShelf.{lean_shelf, CacheShelfOf, IsLeftBy, TakesAsk, TakesOffer, TakesSweep}
+use Rattle.rrc_share.specs.Shelf.{CanWrite, IsShelfSpent, ShelfOf}
 use Rattle.rrc_share.specs.Switches.{Starts}
+use Rattle.rrc_shelf.specs.declared.terms.ShelfRules.{ShelfRules}
+
+-- ---- names
+-- Names that are folded and hashed once, for all that is asked of them.
+
+-- the octets are a name whose letters A to Z are a to z, and this is its hash under the seed
+pub record IsHashedName (octets seed : List ℕ) (hash : ℕ) : Type 0 where
+  pub wire_form : IsWireForm octets
+  pub low : IsFolded octets
+  pub hashed : hash ≡ keyed_hash seed octets
+
+-- ---- parts
+-- The parts that a caller's shelves are. All keys of a name lie in one, and only who knows a seed
+-- can tell in which.
+
+-- the part, of so many parts, that a name lies in, whatever its case (ours): by the upper 32 bits
+-- of its hash, since by the lower ones a part places what it holds
+abbrev pub keyed_part_of : List ℕ → List ℕ → ℕ → ℕ
+keyed_part_of seed name parts = keyed_hash seed (folded name) / 2 ^ 32 % parts
+
+-- ---- a shelf that was made
+
+-- an empty part by these rules, in its first chapter, of which nothing is recorded
+abbrev pub IsNew : ShelfRules → CacheShelfOf → Type 0
+IsNew terms shelf =
+    (rules : Rules) × RulesAre rules terms.capacity terms.chapter terms.max_stale × (shelf ≡ record { records = false; shelf = lean_shelf (first_chapter rules) })
 
 -- ---- events
+-- What calls leave of a shelf, whether its history is recorded or not: it stays as it is, and only
+-- rrc_record, rrc_stop_and_drop and rrc_stop_recording change it.
 
 -- an offer was written, with what became of it and what it evicted
 pub record MakesOffer (old new : CacheShelfOf) (tag : Tag) (offer : OfferOf) (outcome : Outcome) : Type 0 where

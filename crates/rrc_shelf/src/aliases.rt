@@ -3,7 +3,7 @@ ghost use Rattle.std.specs.Prelude.{◌≡◌, true, false};
 ghost use Rattle.std.specs.Option.{option_map};
 ghost use Rattle.rrc_cache.specs.Lookups.{TellsLookup};
 ghost use Rattle.rrc_cache.specs.Seeds.{IsHashOf};
-ghost use Rattle.rrc_shelf.specs.Aliases.{alias_ask, alias_mode, ask_or_alias, has_data, has_failed, is_beside_alias, is_preferred};
+ghost use Rattle.rrc_shelf.specs.Asks.{alias_ask, alias_mode, ask_or_alias, has_data, has_failed, is_beside_alias, is_preferred};
 ghost use Rattle.rrc_history.specs.Views.{ask_in, held_in, reply_in};
 
 use rrc_cache::{Lookup, NameHash};
@@ -77,7 +77,7 @@ fn is_preferred(alias: Option<Held<'_>>, other: Option<Held<'_>>, moment: u64) -
 
 /// The question itself, or that for the name's CNAME record where this is to be told in place of
 /// what there is of the type, with what the shelf tells of it. It takes no memory.
-#[tactic(auto, unfolding(crate::specs::Aliases::ask_or_alias))]
+#[tactic(auto, unfolding(crate::specs::Asks::ask_or_alias))]
 pub(crate) fn ask_or_alias<'a, 's>(
     shelf: &'s CacheShelf,
     ask: AskRef<'a>,

@@ -1,11 +1,9 @@
 // SPDX-License-Identifier: MIT
 ghost use Rattle.std.specs.Prelude.{◌≡◌, length, IfOk, OnErr, OnOk};
-ghost use Rattle.rrc_shelf.specs.Aliases.{ask_or_alias};
-ghost use Rattle.rrc_shelf.specs.Asks.{asked, AnswersOr, TellsOr};
-ghost use Rattle.rrc_shelf.specs.Checks.{Passes};
+ghost use Rattle.rrc_shelf.specs.Asks.{ask_or_alias, asked, AnswersOr, TellsOr};
+ghost use Rattle.rrc_shelf.specs.Checks.{number_of_reply, Passes};
 ghost use Rattle.rrc_shelf.specs.Refusals.{AskDue, PeekDue, question_checks};
 ghost use Rattle.rrc_shelf.specs.Shelves.{IsLeftAs};
-ghost use Rattle.rrc_shelf.specs.Statuses.{number_of_reply};
 
 use crate::aliases::ask_or_alias;
 use crate::asks::{answer, show, show_lookup};

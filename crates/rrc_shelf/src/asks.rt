@@ -2,12 +2,10 @@
 ghost use Rattle.std.specs.Prelude.{◌≡◌, ℕ, ◌+◌, ◌≤◌, ◌↔◌, ◌∷◌, [], length, false, IsTrue, IfOk, IfErr, OnOk, OnErr};
 ghost use Rattle.rrc_cache.specs.Lookups.{TellsLookup};
 ghost use Rattle.rrc_cache.specs.Seeds.{IsHashOf};
-ghost use Rattle.rrc_shelf.specs.Asks.{reply_of, AnswersOr, TellsOr, TellsRecord};
-ghost use Rattle.rrc_shelf.specs.Checks.{Due, IsDone, Refuses};
+ghost use Rattle.rrc_shelf.specs.Asks.{fields_of, reply_of, AnswersOr, AreTellable, TellsOr, TellsRecord};
+ghost use Rattle.rrc_shelf.specs.Checks.{number_of, number_of_call, number_of_reply, Due, IsDone, Refuses};
 ghost use Rattle.rrc_shelf.specs.Refusals.{AnswerDue, NoteDue, WriteDue, reply_check, telling_checks};
 ghost use Rattle.rrc_shelf.specs.Shelves.{IsLeftAs, MakesAsk};
-ghost use Rattle.rrc_shelf.specs.Statuses.{number_of, number_of_call, number_of_reply};
-ghost use Rattle.rrc_shelf.specs.ReplyRecord.{fields_of, AreTellable};
 ghost use Rattle.rrc_history.specs.Views.{ask_in};
 
 use crate::reply_record::{ReplyRecord, data_of, owner_of, told_of};

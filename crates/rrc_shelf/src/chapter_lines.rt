@@ -2,10 +2,9 @@
 ghost use Rattle.std.specs.Prelude.{◌≡◌, ◌∷◌, ◌++◌, [], length, take, drop, IfOk, IfErr};
 ghost use Rattle.std.specs.Option.{option_map};
 ghost use Rattle.rrc_archive.specs.Archive.{line_text};
-ghost use Rattle.rrc_shelf.specs.Chapters.{line_at, LineDue, TellsLine};
-ghost use Rattle.rrc_shelf.specs.Checks.{OutOfMemory};
-ghost use Rattle.rrc_shelf.specs.Statuses.{number_of, OnDone, OnRefused};
-ghost use Rattle.rrc_shelf.specs.ReplyRecord.{IsFilled};
+ghost use Rattle.rrc_shelf.specs.Upkeep.{line_at, LineDue, TellsLine};
+ghost use Rattle.rrc_shelf.specs.Checks.{number_of, OnDone, OnRefused, OutOfMemory};
+ghost use Rattle.rrc_shelf.specs.Asks.{IsFilled};
 
 use crate::status::{NO_LINE, Status};
 use crate::terms::LinePlace;

@@ -1,9 +1,8 @@
 // SPDX-License-Identifier: MIT
 ghost use Rattle.std.specs.Prelude.{◌≡◌, ◌≤◌, ◌<◌, ◌/◌, ◌%◌, ◌^◌, ◌∷◌, [], true, IfErr, OnOk};
-ghost use Rattle.rrc_shelf.specs.Parts.{keyed_part_of};
-ghost use Rattle.rrc_shelf.specs.Checks.{unless, Passes, Refuses};
+ghost use Rattle.rrc_shelf.specs.Shelves.{keyed_part_of};
+ghost use Rattle.rrc_shelf.specs.Checks.{number_of, unless, Passes, Refuses};
 ghost use Rattle.rrc_shelf.specs.Refusals.{division_checks, is_seed};
-ghost use Rattle.rrc_shelf.specs.Statuses.{number_of};
 ghost use Rattle.rrc_name.specs.Key.{IsFolded};
 ghost use Rattle.rrc_name.specs.NameRef.{name_in};
 

@@ -1,9 +1,8 @@
 // SPDX-License-Identifier: MIT
 ghost use Rattle.std.specs.Prelude.{IfOk};
-ghost use Rattle.rrc_shelf.specs.NewShelf.{IsNew};
-ghost use Rattle.rrc_shelf.specs.Checks.{Due, IsDoneOrMemory};
+ghost use Rattle.rrc_shelf.specs.Shelves.{IsNew};
+ghost use Rattle.rrc_shelf.specs.Checks.{number_of_call, Due, IsDoneOrMemory};
 ghost use Rattle.rrc_shelf.specs.Refusals.{rules_checks};
-ghost use Rattle.rrc_shelf.specs.Statuses.{number_of_call};
 
 use crate::division::check_seed;
 use crate::status::Status;

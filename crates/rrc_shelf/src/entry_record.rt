@@ -1,7 +1,7 @@
 // SPDX-License-Identifier: MIT
 ghost use Rattle.std.specs.Prelude.{◌≡◌};
 ghost use Rattle.std.specs.Option.{option_map};
-ghost use Rattle.rrc_shelf.specs.ReplyRecord.{kind_of_entry, record_of};
+ghost use Rattle.rrc_shelf.specs.Asks.{kind_of_entry, record_of};
 ghost use Rattle.rrc_history.specs.Views.{held_in};
 
 use rrc_history::{Body, Held};

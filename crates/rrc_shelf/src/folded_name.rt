@@ -1,6 +1,6 @@
 // SPDX-License-Identifier: MIT
 ghost use Rattle.std.specs.Prelude.{◌≤◌, take};
-ghost use Rattle.rrc_shelf.specs.Names.{IsHashedName};
+ghost use Rattle.rrc_shelf.specs.Shelves.{IsHashedName};
 ghost use Rattle.std.proofs.Props.{props};
 
 /// A name that was folded and hashed, for all that is asked of it, or none where its size is 0. C

@@ -1,13 +1,11 @@
 // SPDX-License-Identifier: MIT
 ghost use Rattle.std.specs.Prelude.{◌≡◌, ◌≤◌, ◌<◌, ◌+◌, ◌*◌, ◌⊎◌, ◌^◌, ◌++◌, ◌∷◌, ℕ, [], length, slice_index, true, false, IfOk, IfErr, IfSome, OnOk, OnErr};
 ghost use Rattle.std.specs.List.{AllByRecursion};
-ghost use Rattle.rrc_shelf.specs.ReplyRecord.{datum, data_text};
-ghost use Rattle.rrc_shelf.specs.Intake.{trust_of, denied, denial_offer, failure_offer, outcome_number, count_more, counts_of, AreAt, AreOffered, IsSetOffer, TakesOne, TakesAll, TakesFirst, TakesMessage, TakesSet, TakesSome, total, whole};
-ghost use Rattle.rrc_shelf.specs.Checks.{memory, unless, Due, Passes, Refuses};
-ghost use Rattle.rrc_shelf.specs.PartIntake.{own_share, part_checks, IsPart};
+ghost use Rattle.rrc_shelf.specs.Asks.{datum, data_text};
+ghost use Rattle.rrc_shelf.specs.Offers.{count_more, counts_of, denial_offer, denied, failure_offer, outcome_number, own_share, part_checks, total, trust_of, whole, AreAt, AreOffered, IsPart, IsSetOffer, TakesAll, TakesFirst, TakesMessage, TakesOne, TakesSet, TakesSome};
+ghost use Rattle.rrc_shelf.specs.Checks.{memory, number_of, number_of_call, unless, Due, Passes, Refuses};
 ghost use Rattle.rrc_shelf.specs.Refusals.{denial_checks, denies_kept, failure_checks, message_check, message_checks, set_checks, AreData, AreLimits, IsTrust, WriteDue};
 ghost use Rattle.rrc_shelf.specs.Shelves.{IsLeftAs};
-ghost use Rattle.rrc_shelf.specs.Statuses.{number_of, number_of_call};
 ghost use Rattle.rrc_history.specs.Fits.{fits};
 ghost use Rattle.rrc_sets.specs.Limits.{LimitsAre};
 ghost use Rattle.rrc_sets.specs.Message.{Brings};

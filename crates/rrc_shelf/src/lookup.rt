@@ -1,9 +1,8 @@
 // SPDX-License-Identifier: MIT
 ghost use Rattle.std.specs.Prelude.{IfOk};
-ghost use Rattle.rrc_shelf.specs.Asks.{TellsEntry};
+ghost use Rattle.rrc_shelf.specs.Asks.{TellsEntry, TellsHeld};
 ghost use Rattle.rrc_shelf.specs.Refusals.{StoredDue};
-ghost use Rattle.rrc_shelf.specs.Statuses.{number_of_call};
-ghost use Rattle.rrc_shelf.specs.Stored.{TellsHeld};
+ghost use Rattle.rrc_shelf.specs.Checks.{number_of_call};
 ghost use Rattle.rrc_name.specs.Key.{IsFolded};
 ghost use Rattle.rrc_name.specs.NameRef.{name_in};
 ghost use Rattle.rrc_share.specs.CacheShelf.{held_by};

@@ -1,10 +1,9 @@
 // SPDX-License-Identifier: MIT
 ghost use Rattle.std.specs.Prelude.{◌≡◌, ◌≤◌, ◌∷◌, [], map, IfOk, IfErr};
-ghost use Rattle.rrc_shelf.specs.Intake.{AreAt};
+ghost use Rattle.rrc_shelf.specs.Offers.{AreAt};
 ghost use Rattle.rrc_shelf.specs.Readings.{placed_in, reading_checks, HoldsOffers, IsReading};
-ghost use Rattle.rrc_shelf.specs.Checks.{memory, OutOfMemory, Passes, Refuses};
+ghost use Rattle.rrc_shelf.specs.Checks.{memory, number_of, OutOfMemory, Passes, Refuses};
 ghost use Rattle.rrc_shelf.specs.Refusals.{division_checks, message_check, AreLimits};
-ghost use Rattle.rrc_shelf.specs.Statuses.{number_of};
 ghost use Rattle.rrc_sets.specs.Offers.{offers_of};
 ghost use Rattle.rrc_wire.specs.Grammar.{MessageOf};
 

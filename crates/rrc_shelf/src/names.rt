@@ -2,11 +2,9 @@
 ghost use Rattle.std.specs.Prelude.{◌≡◌, ◌≤◌, ◌∷◌, [], drop, length, take, IfErr, IfNone, IfOk, IfSome, OnOk};
 ghost use Rattle.rrc_cache.specs.Seeds.{IsHashOf};
 ghost use Rattle.rrc_shelf.specs.Asks.{octets_of};
-ghost use Rattle.rrc_shelf.specs.Folding.{FoldingDue, IsFoldedName};
-ghost use Rattle.rrc_shelf.specs.Parts.{keyed_part_of};
-ghost use Rattle.rrc_shelf.specs.Checks.{memory, Refuses};
-ghost use Rattle.rrc_shelf.specs.Refusals.{wire_check};
-ghost use Rattle.rrc_shelf.specs.Statuses.{number_of, number_of_call};
+ghost use Rattle.rrc_shelf.specs.Refusals.{wire_check, FoldingDue, IsFoldedName};
+ghost use Rattle.rrc_shelf.specs.Shelves.{keyed_part_of};
+ghost use Rattle.rrc_shelf.specs.Checks.{memory, number_of, number_of_call, Refuses};
 ghost use Rattle.rrc_name.specs.Key.{IsFolded};
 ghost use Rattle.rrc_name.specs.NameRef.{name_in};
 ghost use Rattle.rrc_name.specs.Wire.{folded, IsWireForm};

@@ -1,6 +1,6 @@
 // SPDX-License-Identifier: MIT
 ghost use Rattle.std.specs.Prelude.{◌≡◌, IfOk, OnErr};
-ghost use Rattle.rrc_shelf.specs.Statuses.{number_of_call, number_of_reply};
+ghost use Rattle.rrc_shelf.specs.Checks.{number_of_call, number_of_reply};
 
 use crate::status::{SMALL_BUFFER, Status};
 

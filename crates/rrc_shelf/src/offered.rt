@@ -2,9 +2,10 @@
 ghost use Rattle.std.specs.Prelude.{◌≡◌, ◌↔◌, drop, length, None, true, false, IfOk, IfSome, IsSomeAnd, OnErr};
 ghost use Rattle.std.specs.Option.{option_map};
 ghost use Rattle.rrc_history.specs.Views.{reply_in};
-ghost use Rattle.rrc_shelf.specs.Offered.{denial_of, later, offer_in, reply_of_offer, type_of, OfferDue, OneDue, TakesOffer, TellsOfferOr};
+ghost use Rattle.rrc_shelf.specs.Offers.{denial_of, later, offer_in, reply_of_offer, type_of, OfferDue, TellsOfferOr};
+ghost use Rattle.rrc_shelf.specs.Readings.{OneDue, TakesOffer};
 ghost use Rattle.rrc_shelf.specs.Shelves.{IsLeftAs};
-ghost use Rattle.rrc_shelf.specs.Statuses.{number_of_call, number_of_reply, OnDone, OnRefused, OnSmall, OnUntold};
+ghost use Rattle.rrc_shelf.specs.Checks.{number_of_call, number_of_reply, OnDone, OnRefused, OnSmall, OnUntold};
 
 use crate::asks::has_room;
 use crate::folded_name::FoldedName;

@@ -2,9 +2,8 @@
 ghost use Rattle.std.specs.Prelude.{◌≡◌, ◌≤◌, ◌∷◌, [], true, IfErr, IfOk, OnOk};
 ghost use Rattle.rrc_cache.specs.Seeds.{IsHashOf};
 ghost use Rattle.rrc_shelf.specs.Asks.{asked, octets_of, mode_of, purpose_of, AreChoices};
-ghost use Rattle.rrc_shelf.specs.Checks.{unless, Passes, Refuses};
+ghost use Rattle.rrc_shelf.specs.Checks.{number_of, unless, Passes, Refuses};
 ghost use Rattle.rrc_shelf.specs.Refusals.{folded_checks, may_be_known, question_checks};
-ghost use Rattle.rrc_shelf.specs.Statuses.{number_of};
 ghost use Rattle.rrc_history.specs.Views.{ask_in};
 ghost use Rattle.rrc_name.specs.Key.{IsFolded};
 ghost use Rattle.rrc_name.specs.NameRef.{name_in};

@@ -1,7 +1,7 @@
 // SPDX-License-Identifier: MIT
 ghost use Rattle.std.specs.Prelude.{◌≡◌, IfSome, IfNone};
 ghost use Rattle.std.specs.Option.{option_map};
-ghost use Rattle.rrc_shelf.specs.ReplyRecord.{fields_of, record_of, told_of, AreTellable};
+ghost use Rattle.rrc_shelf.specs.Asks.{fields_of, record_of, told_of, AreTellable};
 ghost use Rattle.rrc_history.specs.Views.{held_in, reply_in};
 
 use crate::entry_record::{EntryRecord, record_of};

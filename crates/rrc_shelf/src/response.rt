@@ -1,9 +1,8 @@
 // SPDX-License-Identifier: MIT
 ghost use Rattle.std.specs.Prelude.{◌≡◌, ◌∷◌, [], IfOk, IfErr, IfSome, IfNone, None, OnOk};
-ghost use Rattle.rrc_shelf.specs.Checks.{memory, OutOfMemory, Passes, Refuses};
+ghost use Rattle.rrc_shelf.specs.Checks.{memory, number_of, OutOfMemory, Passes, Refuses};
 ghost use Rattle.rrc_shelf.specs.Refusals.{division_checks, wire_check, AreLimits};
-ghost use Rattle.rrc_shelf.specs.Responses.{query_of, AnswerRefused, IsOther, IsOtherAtLast, IsResponseReading, ReadsRelevant, ResponseRefused};
-ghost use Rattle.rrc_shelf.specs.Statuses.{number_of};
+ghost use Rattle.rrc_shelf.specs.Readings.{query_of, AnswerRefused, IsOther, IsOtherAtLast, IsResponseReading, ReadsRelevant, ResponseRefused};
 ghost use Rattle.rrc_name.specs.Wire.{IsWireForm};
 ghost use Rattle.rrc_sets.specs.Queries.{mismatch};
 ghost use Rattle.rrc_sets.specs.RelevantMessage.{Answers};

@@ -1,8 +1,7 @@
 // SPDX-License-Identifier: MIT
 ghost use Rattle.std.specs.Prelude.{◌≡◌, ◌≤◌, ◌<◌, IfOk, IfErr, OnOk};
 ghost use Rattle.rrc_shelf.specs.Readings.{bit_of, has_part, parts_below, share_checks, share_of, ShareIsPart, RefusedShareIsPart, TakesShare, TakesSomeOfShare};
-ghost use Rattle.rrc_shelf.specs.Checks.{OutOfMemory, Passes, Refuses};
-ghost use Rattle.rrc_shelf.specs.Statuses.{number_of};
+ghost use Rattle.rrc_shelf.specs.Checks.{number_of, OutOfMemory, Passes, Refuses};
 
 use crate::counts::Counts;
 use crate::intake::{NONE, take_each};

@@ -1,6 +1,6 @@
 // SPDX-License-Identifier: MIT
 ghost use Rattle.std.specs.Prelude.{◌≡◌, ◌≤◌};
-ghost use Rattle.rrc_shelf.specs.Statuses.{number_of};
+ghost use Rattle.rrc_shelf.specs.Checks.{number_of};
 
 use rrc_cache::Refusal;
 use std::alloc::{AllocError, AllocFailed};
@@ -104,7 +104,7 @@ impl<T: Drop> From<AllocFailed<T>> for Status {
 
 impl From<Refusal> for Status {
     ghost use Rattle.std.specs.Prelude.{◌≡◌};
-    ghost use Rattle.rrc_shelf.specs.Statuses.{refused_as};
+    ghost use Rattle.rrc_shelf.specs.Checks.{refused_as};
 
     ghost from_gives = { λ refusal status. status ≡ refused_as refusal };
 

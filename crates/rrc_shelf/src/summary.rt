@@ -1,9 +1,8 @@
 // SPDX-License-Identifier: MIT
 ghost use Rattle.std.specs.Prelude.{◌≡◌, drop, IfErr, IfOk, OnErr, OnOk};
 ghost use Rattle.std.specs.Option.{option_map};
-ghost use Rattle.rrc_shelf.specs.Checks.{OutOfMemory};
-ghost use Rattle.rrc_shelf.specs.Statuses.{number_of, number_of_call};
-ghost use Rattle.rrc_shelf.specs.Summaries.{name_of_kind, number_of_kind, record_of_summary, summary_of, AreChosen, SummaryDue, TellsSummary};
+ghost use Rattle.rrc_shelf.specs.Checks.{number_of, number_of_call, OutOfMemory};
+ghost use Rattle.rrc_shelf.specs.Readings.{name_of_kind, number_of_kind, record_of_summary, summary_of, AreChosen, SummaryDue, TellsSummary};
 
 use crate::folded_name::FoldedName;
 use crate::names::fold_name;

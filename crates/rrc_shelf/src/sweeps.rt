@@ -1,11 +1,10 @@
 // SPDX-License-Identifier: MIT
 ghost use Rattle.std.specs.Prelude.{◌≡◌, ◌+◌, ◌≤◌, IfErr, IfNone, IfOk, IfSome, OnErr, OnOk};
 ghost use Rattle.rrc_cache.specs.Expiry.{NoneFullyExpiresBefore};
-ghost use Rattle.rrc_shelf.specs.Checks.{Passes, Refuses};
+ghost use Rattle.rrc_shelf.specs.Checks.{number_of, number_of_call, Passes, Refuses};
 ghost use Rattle.rrc_shelf.specs.Refusals.{WriteDue};
 ghost use Rattle.rrc_shelf.specs.Shelves.{IsLeftAs, MakesSweep};
-ghost use Rattle.rrc_shelf.specs.Statuses.{number_of, number_of_call};
-ghost use Rattle.rrc_shelf.specs.SweepSteps.{step_checks, SweepsAll, SweepsSome, SweepsUntil, SweepsUpTo};
+ghost use Rattle.rrc_shelf.specs.Upkeep.{step_checks, SweepsAll, SweepsSome, SweepsUntil, SweepsUpTo};
 
 use crate::status::Status;
 use crate::terms::SweepTerms;

@@ -1,9 +1,8 @@
 // SPDX-License-Identifier: MIT
 ghost use Rattle.std.specs.Prelude.{◌≡◌, not, IfOk, IfErr, OnErr};
-ghost use Rattle.rrc_shelf.specs.Chapters.{StopDue, StopsRecord, TakesClosed};
-ghost use Rattle.rrc_shelf.specs.Checks.{OutOfMemory};
+ghost use Rattle.rrc_shelf.specs.Upkeep.{StopDue, StopsRecord, TakesClosed};
+ghost use Rattle.rrc_shelf.specs.Checks.{number_of, number_of_call, OutOfMemory};
 ghost use Rattle.rrc_shelf.specs.Refusals.{RecordDueBy};
-ghost use Rattle.rrc_shelf.specs.Statuses.{number_of, number_of_call};
 
 use crate::status::Status;
 use core::mem::replace_with;

@@ -1,6 +1,6 @@
 // SPDX-License-Identifier: MIT
 ghost use Rattle.std.specs.Prelude.{◌≡◌, ◌+◌, ◌≤◌, ◌++◌, length, take, drop, IfSome, IfNone};
-ghost use Rattle.rrc_shelf.specs.ReplyRecord.{datum, data_text, AreNarrow, AreTellable, IsFilled, WritesOn};
+ghost use Rattle.rrc_shelf.specs.Asks.{datum, data_text, AreNarrow, AreTellable, IsFilled, WritesOn};
 
 use rrc_name::Octets;
 

@@ -1,8 +1,7 @@
 // SPDX-License-Identifier: MIT
 ghost use Rattle.std.specs.Prelude.{IfErr, IfOk, OnOk};
-ghost use Rattle.rrc_shelf.specs.Statuses.{number_of};
-ghost use Rattle.rrc_shelf.specs.Checks.{Passes, Refuses};
-ghost use Rattle.rrc_shelf.specs.Trims.{trim_checks, TrimsShelf, TrimsUntil};
+ghost use Rattle.rrc_shelf.specs.Checks.{number_of, Passes, Refuses};
+ghost use Rattle.rrc_shelf.specs.Upkeep.{trim_checks, TrimsShelf, TrimsUntil};
 
 use crate::status::Status;
 use crate::terms::TrimTerms;

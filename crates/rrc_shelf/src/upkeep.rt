@@ -1,10 +1,10 @@
 // SPDX-License-Identifier: MIT
 ghost use Rattle.std.specs.Prelude.{◌≡◌, IfOk, IfErr, OnOk, OnErr};
-ghost use Rattle.rrc_shelf.specs.Upkeep.{DropsChapters, IsNextExpiry, TellsFault, TellsSizes};
-ghost use Rattle.rrc_shelf.specs.Checks.{OutOfMemory};
+ghost use Rattle.rrc_shelf.specs.Upkeep.{DropsChapters, IsNextExpiry, TellsSizes};
+ghost use Rattle.rrc_shelf.specs.Offers.{TellsFault};
+ghost use Rattle.rrc_shelf.specs.Checks.{number_of, number_of_call, OutOfMemory};
 ghost use Rattle.rrc_shelf.specs.Refusals.{RecordDue};
 ghost use Rattle.rrc_shelf.specs.Shelves.{DropsRecord, StartsRecord, recorded_chapters, recorded_events};
-ghost use Rattle.rrc_shelf.specs.Statuses.{number_of, number_of_call};
 
 use crate::sizes::Sizes;
 use crate::status::Status;

@@ -2,7 +2,7 @@
 use Rattle.std.proofs.Common.{length}
 use Rattle.rrc_shelf.specs.Asks.{asked}
 use Rattle.rrc_shelf.specs.Refusals.{AskDue}
-use Rattle.rrc_shelf.specs.Statuses.{number_of_reply}
+use Rattle.rrc_shelf.specs.Checks.{number_of_reply}
 use Rattle.rrc_c.proofs.Holding.{told_of_held}
 use Rattle.rrc_c.proofs.ask_calls.rrc_ask.Goals as goal
 

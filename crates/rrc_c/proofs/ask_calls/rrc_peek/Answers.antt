@@ -3,7 +3,7 @@ use Rattle.std.proofs.Common.{length, Some, ap, ◌∙◌}
 use Rattle.rrc_share.specs.CacheShelf.{CacheShelfOf}
 use Rattle.rrc_shelf.specs.Asks.{asked}
 use Rattle.rrc_shelf.specs.Refusals.{PeekDue}
-use Rattle.rrc_shelf.specs.Statuses.{number_of_reply}
+use Rattle.rrc_shelf.specs.Checks.{number_of_reply}
 use Rattle.rrc_c.proofs.Holding.{told_of_held}
 use Rattle.rrc_c.proofs.ask_calls.rrc_peek.Goals as goal
 

@@ -1,10 +1,9 @@
 -- SPDX-License-Identifier: MIT
 use Rattle.std.proofs.Common.{length, Some, ap, ◌∙◌}
 use Rattle.rrc_share.specs.CacheShelf.{CacheShelfOf}
-use Rattle.rrc_shelf.specs.Aliases.{ask_or_alias}
-use Rattle.rrc_shelf.specs.Asks.{asked}
+use Rattle.rrc_shelf.specs.Asks.{ask_or_alias, asked}
 use Rattle.rrc_shelf.specs.Refusals.{PeekDue}
-use Rattle.rrc_shelf.specs.Statuses.{number_of_reply}
+use Rattle.rrc_shelf.specs.Checks.{number_of_reply}
 use Rattle.rrc_c.proofs.Holding.{told_of_held}
 use Rattle.rrc_c.proofs.ask_calls.rrc_peek_alias.Goals as goal
 

@@ -1,7 +1,7 @@
 -- SPDX-License-Identifier: MIT
 use Rattle.std.proofs.Common.{rules, ◌≡◌, None, sym, subst, inr}
 use Rattle.std.specs.Prelude.{◌⊎◌, IfNone}
-use Rattle.rrc_shelf.specs.Responses.{IsOtherAtLast, ResponseRefused}
+use Rattle.rrc_shelf.specs.Readings.{IsOtherAtLast, ResponseRefused}
 use Rattle.rrc_c.proofs.reading_calls.rrc_read_response.Goals as goal
 
 pub returns-in-Err-clause-due : goal.returns-in-Err-clause-due

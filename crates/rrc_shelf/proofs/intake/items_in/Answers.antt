@@ -2,10 +2,9 @@
 use Rattle.std.proofs.Common.{rules, ◌≤◌, [], ◌∷◌, ◌++◌, length, sym, ap, subst, ◌∙◌, inl, inr}
 use Rattle.std.specs.List.{AllByRecursion}
 use Rattle.rrc_wire.specs.Plain.{IsPlain}
-use Rattle.rrc_shelf.specs.Checks.{memory, unless, Refuses}
+use Rattle.rrc_shelf.specs.Checks.{memory, number_of, unless, Refuses}
 use Rattle.rrc_shelf.specs.Refusals.{AreData}
-use Rattle.rrc_shelf.specs.ReplyRecord.{datum, data_text}
-use Rattle.rrc_shelf.specs.Statuses.{number_of}
+use Rattle.rrc_shelf.specs.Asks.{datum, data_text}
 use Rattle.rrc_shelf.specs.declared.status.Status.TheVariants.{BadData}
 use Rattle.rrc_shelf.proofs.Data.{cut_off, datum_refused, no_datum}
 use Rattle.rrc_shelf.proofs.Filling.{moved}

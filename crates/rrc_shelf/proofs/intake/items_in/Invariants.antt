@@ -2,7 +2,7 @@
 use Rattle.std.proofs.Common.{◌≡◌, ◌++◌, length}
 use Rattle.std.specs.List.{AllByRecursion}
 use Rattle.rrc_wire.specs.Plain.{IsPlain}
-use Rattle.rrc_shelf.specs.ReplyRecord.{data_text}
+use Rattle.rrc_shelf.specs.Asks.{data_text}
 use Rattle.rrc_shelf.proofs.intake.items_in.Given as goal
 
 abbrev pub invariant-loop-rest : goal.invariant-loop-rest

@@ -2,10 +2,8 @@
 use Rattle.std.proofs.Common.{rules, ◌≡◌, subst, inr}
 use Rattle.std.proofs.lemmas.List.Elements.{All-filter}
 use Rattle.rrc_history.specs.Fits.{OfferOf}
-use Rattle.rrc_shelf.specs.Checks.{Passes}
-use Rattle.rrc_shelf.specs.Intake.{AreAt, TakesAll, TakesFirst}
-use Rattle.rrc_shelf.specs.PartIntake.{part_checks}
-use Rattle.rrc_shelf.specs.Statuses.{number_of}
+use Rattle.rrc_shelf.specs.Checks.{number_of, Passes}
+use Rattle.rrc_shelf.specs.Offers.{part_checks, AreAt, TakesAll, TakesFirst}
 use Rattle.rrc_shelf.proofs.Taking.{map_ok, map_err}
 use Rattle.rrc_shelf.proofs.intake.offer_part.Goals as goal
 

@@ -2,7 +2,7 @@
 use Rattle.std.proofs.Common.{rules, ◌==◌}
 use Rattle.std.proofs.lemmas.Fn.{filter_same}
 use Rattle.rrc_history.specs.Fits.{OfferOf}
-use Rattle.rrc_shelf.specs.Parts.{keyed_part_of}
+use Rattle.rrc_shelf.specs.Shelves.{keyed_part_of}
 use Rattle.rrc_shelf.proofs.intake.own_share.Goals as goal
 
 pub returns : goal.returns

@@ -1,10 +1,9 @@
 -- SPDX-License-Identifier: MIT
 use Rattle.std.proofs.Common.{[], ◌∷◌, sym, ◌∙◌, append-nil}
-use Rattle.rrc_shelf.specs.Checks.{memory, unless, Refuses}
+use Rattle.rrc_shelf.specs.Checks.{memory, number_of, unless, Refuses}
 use Rattle.rrc_shelf.specs.Refusals.{AreData}
-use Rattle.rrc_shelf.specs.ReplyRecord.{datum}
+use Rattle.rrc_shelf.specs.Asks.{datum}
 use Rattle.rrc_shelf.specs.declared.status.Status.TheVariants.{BadData}
-use Rattle.rrc_shelf.specs.Statuses.{number_of}
 use Rattle.rrc_shelf.proofs.Data.{datum_refused}
 use Rattle.rrc_shelf.proofs.Refusing.{on_err}
 use Rattle.rrc_shelf.proofs.intake.rdata_in.Goals as goal

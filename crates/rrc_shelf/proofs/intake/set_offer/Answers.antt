@@ -4,9 +4,9 @@ use Rattle.rrc_name.specs.Key.{KeyOf}
 use Rattle.rrc_name.specs.Wire.{folded}
 use Rattle.rrc_name.specs.declared.slot.Slot.TheVariants.{Set}
 use Rattle.rrc_wire.specs.Layout.{is_kept}
-use Rattle.rrc_shelf.specs.ReplyRecord.{data_text}
+use Rattle.rrc_shelf.specs.Asks.{data_text}
 use Rattle.rrc_shelf.specs.Refusals.{AreData, IsTrust}
-use Rattle.rrc_shelf.specs.Statuses.{number_of}
+use Rattle.rrc_shelf.specs.Checks.{number_of}
 use Rattle.rrc_shelf.proofs.SetFits.{on_ok, some_where_fit, life_where_fit, lacks_where_unfit}
 use Rattle.rrc_shelf.proofs.Taking.{map_err}
 use Rattle.rrc_shelf.proofs.intake.set_offer.Goals as goal

@@ -2,8 +2,8 @@
 use Rattle.std.proofs.Common.{◌≡◌, ℕ, length, take, refl, sym, ◌∙◌, map-id}
 use Rattle.std.proofs.lemmas.Iterator.Consumers.{YieldsList-so_far, YieldsList-turn}
 use Rattle.std.proofs.lemmas.Iterator.Adapters.{YieldsList-from_vec}
-use Rattle.rrc_shelf.specs.Intake.{AreAt, TakesFirst}
-use Rattle.rrc_shelf.specs.Statuses.{number_of, refused_as}
+use Rattle.rrc_shelf.specs.Offers.{AreAt, TakesFirst}
+use Rattle.rrc_shelf.specs.Checks.{number_of, refused_as}
 use Rattle.rrc_shelf.proofs.Refusing.{on_err, write_refused}
 use Rattle.rrc_shelf.proofs.Taking.{takes_more, takes_first, parts_at}
 use Rattle.rrc_shelf.proofs.intake.take_each.Goals as goal

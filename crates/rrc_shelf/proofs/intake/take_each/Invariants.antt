@@ -1,6 +1,6 @@
 -- SPDX-License-Identifier: MIT
 use Rattle.std.proofs.Common.{◌≡◌, length}
-use Rattle.rrc_shelf.specs.Intake.{TakesAll, total}
+use Rattle.rrc_shelf.specs.Offers.{TakesAll, total}
 use Rattle.rrc_shelf.proofs.intake.take_each.Given as goal
 
 abbrev pub invariant-loop-offer : goal.invariant-loop-offer

@@ -4,7 +4,7 @@ use Rattle.rrc_name.specs.Key.{KeyOf}
 use Rattle.rrc_name.specs.NameRef.{name_in}
 use Rattle.rrc_history.specs.declared.snapshot.Entry.{Entry}
 use Rattle.rrc_share.specs.CacheShelf.{held_by}
-use Rattle.rrc_shelf.specs.ReplyRecord.{record_of}
+use Rattle.rrc_shelf.specs.Asks.{record_of}
 use Rattle.rrc_shelf.proofs.Telling.{stands_where_held, tells_entry}
 use Rattle.rrc_shelf.proofs.lookup.entry_at.Goals as goal
 

@@ -1,7 +1,7 @@
 -- SPDX-License-Identifier: MIT
 use Rattle.std.proofs.Common.{ℕ, List, ◌∙◌, ap}
 use Rattle.rrc_sets.specs.Offers.{offers_of}
-use Rattle.rrc_shelf.specs.Summaries.{summary_of}
+use Rattle.rrc_shelf.specs.Readings.{summary_of}
 use Rattle.rrc_shelf.proofs.message.read.Goals as goal
 
 pub returns-clause-reading : goal.returns-clause-reading

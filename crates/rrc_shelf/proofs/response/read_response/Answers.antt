@@ -3,7 +3,7 @@ use Rattle.std.proofs.Common.{rules, subst}
 use Rattle.rrc_wire.specs.declared.message.Message.{Message}
 use Rattle.rrc_sets.specs.declared.query.Query.{Query}
 use Rattle.rrc_sets.specs.RelevantMessage.{Answers}
-use Rattle.rrc_shelf.specs.Responses.{ReadsRelevant}
+use Rattle.rrc_shelf.specs.Readings.{ReadsRelevant}
 use Rattle.rrc_shelf.proofs.response.read_response.Goals as goal
 
 pub returns-clause-some : goal.returns-clause-some

@@ -1,7 +1,7 @@
 -- SPDX-License-Identifier: MIT
 use Rattle.std.proofs.Common.{ℕ, subst, inr}
-use Rattle.rrc_shelf.specs.Intake.{AreAt, TakesAll, TakesFirst}
-use Rattle.rrc_shelf.specs.Statuses.{number_of}
+use Rattle.rrc_shelf.specs.Offers.{AreAt, TakesAll, TakesFirst}
+use Rattle.rrc_shelf.specs.Checks.{number_of}
 use Rattle.rrc_shelf.proofs.Sharing.{share_at}
 use Rattle.rrc_shelf.proofs.Taking.{map_ok, map_err}
 use Rattle.rrc_shelf.proofs.shares.offer_share.Goals as goal

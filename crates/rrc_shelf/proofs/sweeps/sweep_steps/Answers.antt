@@ -1,6 +1,6 @@
 -- SPDX-License-Identifier: MIT
 use Rattle.std.proofs.Common.{◌+◌, sym, subst}
-use Rattle.rrc_shelf.specs.SweepSteps.{SweepsUpTo}
+use Rattle.rrc_shelf.specs.Upkeep.{SweepsUpTo}
 use Rattle.rrc_shelf.proofs.Refusing.{on_err}
 use Rattle.rrc_shelf.proofs.Sweeping.{HasSwept, more_swept}
 use Rattle.rrc_shelf.proofs.sweeps.sweep_steps.Goals as goal

@@ -1,6 +1,6 @@
 -- SPDX-License-Identifier: MIT
 use Rattle.std.proofs.Common.{◌≡◌, ◌++◌, length, take}
-use Rattle.rrc_shelf.specs.ReplyRecord.{data_text, IsFilled}
+use Rattle.rrc_shelf.specs.Asks.{data_text, IsFilled}
 use Rattle.rrc_shelf.proofs.text.fill.Given as goal
 
 abbrev pub invariant-loop-octets : goal.invariant-loop-octets

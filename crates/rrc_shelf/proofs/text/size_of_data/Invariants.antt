@@ -1,6 +1,6 @@
 -- SPDX-License-Identifier: MIT
 use Rattle.std.proofs.Common.{◌≡◌, ◌+◌, ◌^◌, ◌<◌, length, drop}
-use Rattle.rrc_shelf.specs.ReplyRecord.{data_text, AreNarrow}
+use Rattle.rrc_shelf.specs.Asks.{data_text, AreNarrow}
 use Rattle.rrc_shelf.proofs.text.size_of_data.Given as goal
 
 abbrev pub invariant-loop-octets : goal.invariant-loop-octets

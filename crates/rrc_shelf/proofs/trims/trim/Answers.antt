@@ -1,6 +1,6 @@
 -- SPDX-License-Identifier: MIT
-use Rattle.rrc_shelf.specs.Statuses.{refused_as}
-use Rattle.rrc_shelf.specs.Trims.{TrimsUntil}
+use Rattle.rrc_shelf.specs.Checks.{refused_as}
+use Rattle.rrc_shelf.specs.Upkeep.{TrimsUntil}
 use Rattle.rrc_shelf.proofs.Refusing.{on_err}
 use Rattle.rrc_shelf.proofs.Trimming.{stops}
 use Rattle.rrc_shelf.proofs.trims.trim.Goals as goal

@@ -7,7 +7,7 @@ use denote.Struct.Owning.{shape, fields, to}
 use denote.Param.Send.{IsSend, AllSend, owning_send, struct_send, sendable}
 use Rattle.std.specs.Prelude.{ℕ, [], ◌∷◌, Option, None, Some}
 use Rattle.std_alloc.proofs.SendSync.{quiet, seen}
-use Rattle.rrc_c.specs.Looked.{sight_owns}
+use Rattle.rrc_c.specs.Handles.{sight_owns}
 use Rattle.rrc_share.specs.contracts.cache_shelf.CacheShelf as Shelf
 use Rattle.rrc_share.proofs.cache_shelf.CacheShelf.TheSendSync.{the_sync as shelf}
 use Rattle.rrc_c.specs.contracts.sight.Sight.{the_row, the_type}

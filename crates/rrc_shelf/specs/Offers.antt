@@ -1,25 +1,41 @@
 -- SPDX-License-Identifier: MIT
 -- What C offers, and what it is told of it.
-use Rattle.std.specs.Prelude.{◌≡◌, ℕ, ◌+◌, ◌⊎◌, List, [], ◌∷◌, ◌++◌, length, reverse, if◌then◌else◌, ◌==◌}
+use Rattle.std.specs.Prelude.{◌≡◌, ℕ, ◌+◌, ◌-◌, ◌^◌, min, ◌<◌, ◌≤◌, ◌==◌, ◌⊎◌, Bool, true, false, if◌then◌else◌, List, [], ◌∷◌, ◌++◌, length, reverse, filter, slice_get, Option, Some}
 use Rattle.std.specs.List.{All}
+use Rattle.std.specs.Option.{option_map}
 use Rattle.rrc_name.specs.Wire.{folded, IsWireForm}
 use Rattle.rrc_name.specs.declared.slot.Slot.{Slot}
 use Rattle.rrc_name.specs.declared.slot.Slot.TheVariants.{Set, Nx, Failed}
+use Rattle.rrc_wire.specs.Fault.{number_of}
+use Rattle.rrc_wire.specs.FirstFault.{FirstFault}
+use Rattle.rrc_wire.specs.Grammar.{MessageOf}
+use Rattle.rrc_wire.specs.declared.fault.WireFault.{WireFault}
+use Rattle.rrc_wire.specs.declared.message.Message.{Message}
 use Rattle.rrc_history.specs.Fits.{OfferOf}
+use Rattle.rrc_history.specs.Past.{entry_of}
+use Rattle.rrc_history.specs.declared.body.Body.{Body}
 use Rattle.rrc_history.specs.declared.body.Body.TheVariants.{Positive, Negative, Failure}
 use Rattle.rrc_history.specs.declared.body.Trust.{Trust}
 use Rattle.rrc_history.specs.declared.body.Trust.TheVariants.{Additional, NonAuthoritativeAnswer, Authority, AuthoritativeAnswer}
 use Rattle.rrc_history.specs.declared.event.Outcome.{Outcome}
 use Rattle.rrc_history.specs.declared.event.Outcome.TheVariants.{Kept, Cleared, LessTrusted}
-use Rattle.rrc_share.specs.CacheShelf.{CacheShelfOf}
+use Rattle.rrc_history.specs.declared.event.Reply.{Reply}
+use Rattle.rrc_history.specs.declared.event.Reply.TheVariants.{Fresh, NoData, NxDomain, Miss}
 use Rattle.rrc_sets.specs.Limits.{LimitsAre}
 use Rattle.rrc_sets.specs.Message.{Brings}
 use Rattle.rrc_sets.specs.declared.limits.Limits.{Limits}
-use Rattle.rrc_shelf.specs.Shelves.{IsLeftAs, MakesOffer}
-use Rattle.rrc_shelf.specs.ReplyRecord.{data_text}
-use Rattle.rrc_shelf.specs.Checks.{Check, Passes, Refuses}
-use Rattle.rrc_shelf.specs.Refusals.{WriteDue}
+use Rattle.rrc_share.specs.CacheShelf.{CacheShelfOf}
+use Rattle.rrc_shelf.specs.Asks.{data_text, record_of, text_of, told_of, IsFilled}
+use Rattle.rrc_shelf.specs.Checks.{unless, Check, Due, IsDone, Passes, Refuses}
+use Rattle.rrc_shelf.specs.Refusals.{division_checks, is_seed, message_checks, reply_check, room_check, wire_check, IsFoldedName, WriteDue}
+use Rattle.rrc_shelf.specs.Shelves.{keyed_part_of, IsLeftAs, MakesOffer}
 use Rattle.rrc_shelf.specs.declared.counts.Counts.{Counts}
+use Rattle.rrc_shelf.specs.declared.folded_name.FoldedName.{FoldedName}
+use Rattle.rrc_shelf.specs.declared.reading.Placed.{Placed}
+use Rattle.rrc_shelf.specs.declared.reading.Reading.{Reading}
+use Rattle.rrc_shelf.specs.declared.reply_record.ReplyRecord.{ReplyRecord}
+use Rattle.rrc_shelf.specs.declared.status.Status.TheVariants.{BadRules, BadSeed, OtherSeed}
+use Rattle.rrc_shelf.specs.declared.terms.Division.{Division}
 use Rattle.rrc_shelf.specs.declared.terms.FailureTerms.{FailureTerms}
 use Rattle.rrc_shelf.specs.declared.terms.NegativeTerms.{NegativeTerms}
 use Rattle.rrc_shelf.specs.declared.terms.ResponseTerms.{ResponseTerms}
@@ -156,3 +172,90 @@ TakesSome checks share number octets zone terms counts old new =
 -- how many offers were counted
 abbrev pub total : Counts → ℕ
 total counts = counts.kept + counts.cleared + counts.outranked
+
+-- ---- a part's share of a message
+-- What C offers of a message to a shelf that is one of many: that of the names which lie in its
+-- part.
+
+-- the offers under names that lie in a part, of so many parts, by a seed
+abbrev pub lying_in : ℕ → List ℕ → ℕ → List OfferOf → List OfferOf
+lying_in parts seed part offers = filter (λ offer. keyed_part_of seed offer.key.name parts == part) offers
+
+-- there are 1 to 64 parts, and this is one of them
+pub record IsPart (parts part : ℕ) : Type 0 where
+  pub some : 1 ≤ parts
+  pub few : parts ≤ 64
+  pub below : part < parts
+
+-- what lies in the part of the terms
+abbrev pub own_share : ResponseTerms → List OfferOf → List OfferOf
+own_share terms offers = lying_in terms.parts.count terms.parts.seed terms.part offers
+
+-- the checks of a call that offers such a share to a shelf with this seed
+abbrev pub part_checks : List ℕ → List ℕ → ResponseTerms → List ℕ → List Check
+part_checks octets zone terms seed =
+    unless BadRules (IsPart terms.parts.count terms.part)
+    ∷ unless BadSeed (is_seed terms.parts.seed ≡ true)
+    ∷ message_checks octets zone terms.limits ++ (unless OtherSeed (terms.parts.seed ≡ seed) ∷ [])
+
+-- ---- faults of a message
+
+-- 0 where octets are a message, and else the number of their first fault
+abbrev pub TellsFault : List ℕ → ℕ → Type 0
+TellsFault octets number =
+    ((number ≡ 0) × ((message : Message) × MessageOf octets message)) ⊎ ((fault : WireFault) × FirstFault octets fault × (number ≡ number_of fault))
+
+-- ---- an offer that was read
+-- What C is told of an offer that was read: the reply that it makes once it is kept.
+
+-- a moment so many seconds after another one, at most the last that a number can tell
+abbrev pub later : ℕ → ℕ → ℕ
+later at seconds = min (at + seconds) (2 ^ 64 - 1)
+
+-- that there are no data of a type, or no such name
+abbrev pub denial_of : Slot → List ℕ → List ℕ → ℕ → Reply
+denial_of Nx owner soa ttl = NxDomain (record { owner = owner; octets = soa }) ttl
+denial_of slot owner soa ttl = NoData (record { owner = owner; octets = soa }) ttl
+
+-- a body under a slot as the reply that it makes at its moment, for its whole TTL
+abbrev pub reply_by : Slot → ℕ → Body → Reply
+reply_by slot at (Positive trust ttl owner items) = Fresh (record { owner = owner; items = items }) ttl
+reply_by slot at (Negative trust ttl owner soa) = denial_of slot owner soa ttl
+reply_by slot at (Failure ttl) = Miss (Some (later at ttl))
+
+abbrev pub reply_of_offer : OfferOf → Reply
+reply_of_offer offer = reply_by offer.key.slot offer.moment offer.body
+
+-- the type of a slot; a name that does not exist has none
+abbrev pub type_of : Slot → ℕ
+type_of (Set rtype) = rtype
+type_of Nx = 0
+type_of (Failed rtype) = rtype
+
+-- the record of that reply, from an entry with the number 0 and the age 0
+abbrev pub told_of_offer : OfferOf → ReplyRecord
+told_of_offer offer = told_of (type_of offer.key.slot) (reply_of_offer offer) (record_of (Some (entry_of offer 0)) 0)
+
+-- the parts and the seed that a reading was made for
+abbrev pub division_of : Reading → Division
+division_of reading = record { count = reading.parts; seed = reading.seed }
+
+-- the name and the record tell an offer of a reading
+pub record TellsNameAndRecord (reading : Reading) (offer : OfferOf) (name : FoldedName) (told : ReplyRecord) : Type 0 where
+  pub name_is : IsFoldedName offer.key.name (division_of reading) name
+  pub record_is : told ≡ told_of_offer offer
+
+-- so they do, and the buffer; or that has no room, and is as it was
+abbrev pub TellsOfferOr : Bool → Reading → OfferOf → FoldedName → ReplyRecord → List ℕ → List ℕ → Type 0
+TellsOfferOr true reading offer name told before after = TellsNameAndRecord reading offer name told × IsFilled before (text_of (reply_of_offer offer)) after
+TellsOfferOr false reading offer name told before after = TellsNameAndRecord reading offer name told × (after ≡ before)
+
+-- when an offer of a reading is told to a buffer of so many octets, and when that is refused with
+-- what
+abbrev pub OfferDue : Reading → OfferOf → ℕ → ℕ → Type 0
+OfferDue reading offer room =
+    Due (reply_check (reply_of_offer offer) ∷ division_checks (division_of reading) ++ (wire_check offer.key.name ∷ room_check (reply_of_offer offer) room ∷ [])) IsDone
+
+-- the offer of a reading with a number, counted from 0, if there is one
+abbrev pub offer_in : Reading → ℕ → Option OfferOf
+offer_in reading index = option_map (λ (one : Placed). one.offer) (slice_get reading.placed.items index)
