@@ -3,27 +3,28 @@
    is for C programs that have one thread or do their own locking. rrcache.h, which includes this
    header, provides a cache that has its own locks and that threads can share.
 
-   A *shelf* is one shard of the cache. A resolver with several threads makes 16 to 64 shelves, and
-   keeps a lock for each shelf. For each question, the resolver calls `rrcache_make_name` once. This
-   call folds the name of the question (converts its letters to lower case), hashes the folded name,
-   and determines the shelf of the name. All data of a name are in one shelf, regardless of the case
-   of the letters in the name. A hash of the name under a secret seed determines the shelf, and all
-   shelves of a cache have the same seed (`struct rrcache_rules`, `struct rrcache_parts`). If the
-   seed were not secret, an attacker could choose names that all belong to one shelf, and thereby
-   fill that shelf and keep its lock busy. With more shelves, fewer threads wait for the same lock.
-   For a program with one thread, one shelf without a lock is enough.
+   A *shelf* is one shard of the cache. A resolver with several threads should make 16 to 64
+   shelves, and keep a lock for each of them. For each question, the resolver calls
+   `rrcache_make_name` once. This call folds the name of the question (converts its letters to lower
+   case), hashes the folded name, and determines the shelf to which the name belongs. All data of a
+   name are in one shelf, regardless of the case of the letters in the name. A hash of the name
+   under a secret seed determines the shelf, and all shelves of a cache have the same seed (`struct
+   rrcache_rules`, `struct rrcache_parts`). If the seed were not secret, an attacker could choose
+   names that all belong to one shelf, and thereby fill that shelf and keep its lock busy. With more
+   shelves, fewer threads wait for the same lock. For a program with one thread, one shelf without a
+   lock is enough.
 
    This header uses the following terms. There are three kinds of *key*. The first consists of a
    name, a class and a type, and holds the RRset or NODATA of the type. The second consists of a
-   name and a class, and holds the NXDOMAIN of the name. The third consists of a name, a class and a
-   type, and holds the resolution failure of the type. An *entry* is the RRset, negative answer or
-   failure that a key holds. To *offer* data is to pass them to a shelf, which decides whether to
-   store them (`enum rrcache_outcome`). An *ask* looks up an answer, and moves the entry that it
-   finds to the front of the LRU order. A *peek* looks up an answer but changes nothing. A *part* is
-   the set of all names that belong to one shelf. A part and its shelf have the same number, counted
-   from 0. A type or a class is *kept* if the library stores its data; the library skips data of all
-   other types and classes. A name and its data are *in bailiwick* if the name is at or below the
-   zone whose servers were queried. The section "History and chapters" below defines *events* and
+   name and a class, and holds the NXDOMAIN of the name. The third has the same components as the
+   first, but holds a resolution failure. An *entry* is the RRset, negative answer or failure that a
+   key holds. To *offer* data is to pass them to a shelf, which decides whether to store them (`enum
+   rrcache_outcome`). An *ask* looks up an answer, and moves the entry that it finds to the front of
+   the LRU order. A *peek* looks up an answer but changes nothing. A *part* is the set of all names
+   that belong to one shelf. A part and its shelf have the same number, counted from 0. A type or a
+   class is *kept* if the library stores its data; the library skips data of all other types and
+   classes. A name and its data are *in bailiwick* if the name is at or below the apex of the zone
+   whose servers were queried. The section "History and chapters" below defines *events* and
    *chapters*.
 
    docs/RULES.md describes the rules of the cache. Some names in this header differ from the terms
@@ -47,12 +48,13 @@
    Locking
    - Hold the lock of a shelf during every call that takes the handle of this shelf. Five of these
      calls are read-only, and need only a read lock: `rrcache_peek`, `rrcache_peek_alias`,
-     `rrcache_tell_stored`, `rrcache_sizes` and `rrcache_next_expiry`. Read-only calls take a const
-     handle, and write nothing that another thread reads. Any number of threads may make read-only
-     calls on one shelf at the same time. Every other call on a shelf, including `rrcache_ask` and
-     `rrcache_ask_alias`, needs a write lock: no other call on that shelf may run at the same time.
-     If a caller breaks these rules, the behavior is undefined, and the library does not detect the
-     error. No call takes more than one shelf, so no call needs the locks of two shelves.
+     `rrcache_tell_stored`, `rrcache_sizes` and `rrcache_next_expiry`. Read-only calls take a
+     `const` handle, and write nothing that another thread reads. Any number of threads may make
+     read-only calls on one shelf at the same time. Every other call on a shelf, including
+     `rrcache_ask` and `rrcache_ask_alias`, needs a write lock: no other call on that shelf may run
+     at the same time. If a caller breaks these rules, the behavior is undefined, and the library
+     does not detect the error. No call takes more than one shelf, so no call needs the locks of two
+     shelves.
    - The following calls on offers take no shelf, so they do not need the lock of a shelf:
      `rrcache_read_response`, `rrcache_read_message_unchecked`, `rrcache_tell_response`,
      `rrcache_tell_offer` and `rrcache_free_offers`. No two calls may use the same `struct
@@ -66,16 +68,16 @@
      rrcache_chapters` at the same time.
    - `rrcache_fault`, `rrcache_make_name`, `rrcache_compose_response` and `rrcache_tell_octets` take
      no handle and need no lock.
-   - No call waits, sleeps or takes a lock, unless malloc, realloc, free or the caller's sink does
-     so. A sink is a callback that the caller passes (`rrcache_sink`). Only `rrcache_write_line` and
-     `rrcache_write_chapter` call a sink. Do not call any function of the library from a signal
-     handler. If a process with several threads calls fork, do not call any function of the library
-     in the child process.
+   - No call waits, sleeps or takes a lock, unless `malloc`, `realloc`, `free` or the caller's sink
+     does so. A sink is a callback that the caller passes (`rrcache_sink`). Only
+     `rrcache_write_line` and `rrcache_write_chapter` call a sink. Do not call any function of the
+     library from a signal handler. If a process with several threads calls `fork`, do not call any
+     function of the library in the child process.
 
    Memory
-   - The library allocates memory only with malloc and realloc, and frees it only with free. If an
-     allocation fails during a call, the call returns RRCACHE_MEMORY, unless the call can do without
-     the memory.
+   - The library allocates memory only with `malloc` and `realloc`, and frees it only with `free`.
+     If an allocation fails during a call, the call returns RRCACHE_MEMORY, unless the call can do
+     without the memory.
    - The following calls never allocate and never return RRCACHE_MEMORY, even for long names:
      `rrcache_peek`, `rrcache_peek_alias`, `rrcache_tell_stored`, `rrcache_sizes`,
      `rrcache_next_expiry`, `rrcache_make_name`, `rrcache_tell_response`, `rrcache_tell_offer`,
@@ -110,8 +112,8 @@
    A message about names in several shelves
    - A response may contain data of names that do not belong to the shelf of the question's name,
      such as the target of a CNAME record, the owner of an SOA record, or the names of name servers.
-     A resolver with several shelves reads the message once, with `rrcache_read_response` and
-     without a lock. This call reports which shelves the message concerns. For each of these
+     A resolver with several shelves reads the message once, by calling `rrcache_read_response`,
+     which needs no lock. This call reports which shelves the message concerns. For each of these
      shelves, the resolver takes the lock of the shelf and calls `rrcache_offer_read` with the
      number of the shelf. Each of these calls offers only the data of names in one shelf, but
      together the calls offer everything that `rrcache_read_response` has read. The data of each
@@ -125,15 +127,15 @@
    - To follow a CNAME chain from shelf to shelf, call `rrcache_ask_alias` for each name of the
      chain, under the lock of that name's shelf. The caller must limit the number of CNAME records
      that it follows. This limit also ends loops. Each RRset of the chain has its own TTL.
-   - `rrcache_offer_message_unchecked` offers to one shelf all data of a message that are in
-     bailiwick. Use this function only if the cache has a single shelf.
+   - `rrcache_offer_message_unchecked` offers all in-bailiwick data of a message to one shelf. Use
+     this function only if the cache has a single shelf.
 
    What is stored
-   - `rrcache_read_response` extracts only the data of a message that are relevant to the resolver's
-     query. The call rejects a message whose identifier or question differs from that of the query.
-     Use this function for all messages from servers. The caller must check that a message comes
-     from the address and port to which the query was sent, and that it arrives at the address and
-     port from which the query was sent.
+   - `rrcache_read_response` extracts from a message only the data that are relevant to the
+     resolver's query. The call rejects a message whose identifier or question differs from that of
+     the query. Use this function for all messages from servers. The caller must check that a
+     message comes from the address and port to which the query was sent, and that it arrives at the
+     address and port from which the query was sent.
    - A resolver that parses responses itself passes the parsed RRsets, with their sections, to
      `rrcache_compose_response`. This function writes the RRsets as a message, which the resolver
      then passes to `rrcache_read_response` like any other message.
@@ -152,21 +154,21 @@
    - Nothing from a message is offered if its opcode is not QUERY, if the class of its question is
      not kept, or if the name of its question is out of bailiwick.
    - The kept classes are IN, CH and HS (RFC 1035 section 3.2.4). docs/RULES.md lists the kept
-     types. Each class of a name has its own keys. A record of a message is ignored if the class of
-     the record differs from that of the question. Data of type A in class CH are not kept, because
-     the rdata of this type in this class begin with a name. It is an error to ask for a class that
-     is not kept, or for type 0. A question for any other type that is not kept is allowed: the
-     reply is a miss, or RRCACHE_NXDOMAIN if an unexpired NXDOMAIN of the name is cached. For type
-     ANY, such an NXDOMAIN determines the reply even if unexpired RRsets of higher rank are cached
-     for the name.
+     types. A name has separate keys for each class. A record of a message is ignored if the class
+     of the record differs from that of the question. Data of type A in class CH are not kept,
+     because the rdata of this type in this class begin with a name. It is an error to ask for a
+     class that is not kept, or for type 0. A question for any other type that is not kept is
+     allowed: the reply is a miss, or RRCACHE_NXDOMAIN if an unexpired NXDOMAIN of the name is
+     cached. For type ANY, such an NXDOMAIN determines the reply even if unexpired RRsets of higher
+     rank are cached for the name.
    - Even if a message that answers a question has just been offered, the next ask for that question
      may be a miss. Apart from evictions, there are six possible causes: the answer is at the end of
      a CNAME chain, or the chain is too long; the TTL of the answer is 0; the type of the question
-     is not kept; the records of an RRset of the answer have different TTLs, AA is clear and
+     is not kept; the records of an RRset in the answer have different TTLs while AA is clear and
      `lowest_ttl` is not set; the response is negative but has no suitable SOA record
-     (docs/RULES.md, "What a response offers"); or an RRset of the answer is not relevant. In all
-     these cases, `rrcache_tell_response` still returns the kind of the response, and
-     `rrcache_tell_offer` returns each offer, including an RRset with TTL 0. The caller can answer
+     (docs/RULES.md, "What a response offers"); or an RRset in the answer is not relevant. In all
+     these cases, `rrcache_tell_response` still reports the kind of the response, and
+     `rrcache_tell_offer` still reports each offer, even an RRset with TTL 0. The caller can answer
      the waiting client from the output of these calls. The caller has to parse the message only to
      obtain data that are not offered, such as data of a type that is not kept.
    - If a message answers its question, but nothing from it is stored for the question, the message
@@ -179,10 +181,10 @@
      NOERROR or NXDOMAIN counts as a refresh, and the old RRset should no longer be returned. So if
      such a response is offered, but nothing that governs the reply to the question is stored
      (docs/RULES.md, "What is not stored"), the resolver should clear the old RRset. To do so, it
-     calls `rrcache_offer_set` with `ttl` 0 and RRCACHE_AUTHORITATIVE_ANSWER.
+     calls `rrcache_offer_set` with `ttl` 0 and the rank RRCACHE_AUTHORITATIVE_ANSWER.
    - If the type of the question is kept, a response with any RCODE other than NOERROR or NXDOMAIN,
-     including FORMERR, NOTIMP and REFUSED, offers a failure of the question. Then, if no cached
-     data may answer the question, the reply is RRCACHE_FAILED until the failure expires or a later
+     including FORMERR, NOTIMP and REFUSED, offers a failure of the question. If no cached data may
+     then answer the question, the reply is RRCACHE_FAILED until the failure expires or a later
      entry for the question is stored. So offer such a response only when the resolver can neither
      query another server nor try again without EDNS.
    - If the offers of a message need more new keys than the shelf can hold, later offers evict keys
@@ -194,11 +196,11 @@
      that of a previous call.
    - In a call, the age of an entry is the timestamp of the call minus the timestamp of the entry.
      If the timestamp of the call is lower than that of the entry, the age is 0, and `left` is the
-     whole TTL of the entry. The field `age` of `struct rrcache_entry` is not this age, but a number
-     of uses.
+     whole TTL of the entry. The field `age` of `struct rrcache_entry` is not this age: it counts
+     uses of keys.
    - An entry has expired when its age is at least its TTL. An entry is *fully expired* when it can
-     no longer answer. A negative answer or a failure is fully expired as soon as it has expired. An
-     RRset becomes fully expired `max_stale` seconds after it expires.
+     no longer answer any question. A negative answer or a failure is fully expired as soon as it
+     has expired. An RRset becomes fully expired `max_stale` seconds after it expires.
    - If the caller's clock is set back by a number of seconds, all cached data expire that many
      seconds too late. Data that had expired, but have not yet been replaced, cleared, evicted or
      swept, may answer again, and may prevent data of lower rank from being stored. If the clock is
@@ -211,9 +213,9 @@
 
    History and chapters
    - The history of a shelf is a log of events. Each ask, sweep or offer that succeeds is one event,
-     and so is an outranked offer. A message causes one event for each offer that is made from it. A
-     trim causes one or two events for each key that it evicts, and one more event if it begins with
-     a sweep.
+     even an offer with the outcome RRCACHE_OUTRANKED. A message causes one event for each offer
+     that is made from it. A trim causes one or two events for each key that it evicts, and one more
+     event if it begins with a sweep.
    - A new shelf does not record its history. While a shelf is not recording, its events are
      numbered but use no memory, no chapter becomes full, and there are no chapters to drop.
      `rrcache_record` starts recording: from then on, the shelf keeps events in memory.
@@ -233,21 +235,22 @@
      the shelf held when the chapter began, the call copies the entries of all keys instead.
      `rrcache_record` begins a new chapter, and always copies the entries of all keys. Names, data
      and events are not copied. A good value for `chapter`, the maximum number of events in a
-     chapter, is about the number of keys in the shelf.
+     chapter, is roughly the number of keys in the shelf.
    - A caller that records a history should regularly take the closed chapters with
      `rrcache_take_chapters`, or drop them with `rrcache_drop_chapters`. The time needed to take
      chapters does not depend on their number. Dropping chapters frees all their events, and all
-     copied entries that are not used elsewhere. So the time needed to drop chapters, which is spent
-     under the lock, grows with the number of events since chapters were last dropped or taken. This
-     time is short if the caller drops chapters often. `rrcache_free_chapters` frees taken chapters
-     without a lock.
+     copied entries that are not used elsewhere. So the time needed to drop chapters, during which
+     the caller holds the lock, grows with the number of events since chapters were last dropped or
+     taken. This time is short if the caller drops chapters often. `rrcache_free_chapters` frees
+     taken chapters without a lock.
    - `rrcache_write_chapter` writes a taken chapter as text: a first line with the number of the
      chapter, the number of its first event, and the rules of the shelf except the seed; a line for
      each key that was cached when the chapter began; and a line for each event. The text of all
      chapters of one recording, in the order in which they were taken, is an archive. The command
-     `rrcache --audit-history` audits an archive: it checks that the history in the archive follows
-     the rules. Chapters are numbered from 1, and chapters that were not recorded have numbers too.
-     A recording begins with a new chapter, so the number of its first chapter is 2 or higher.
+     `rrcache --audit-history` audits an archive: it checks whether the history in the archive
+     follows the rules. Chapters are numbered from 1, and chapters that were not recorded have
+     numbers too. A recording begins with a new chapter, so the number of its first chapter is 2 or
+     higher.
    - Whether or not the shelf is recording, event numbers are used up when the next event would have
      the number 2^62. Chapter numbers are used up when the open chapter is full and has the number
      2^62. Once event numbers or chapter numbers are used up, each call that has to write an event
@@ -279,22 +282,23 @@
 
    Names are in wire form (RFC 1035 section 3.1): complete, without compression pointers, and at
    most 255 octets long, including the zero octet at the end. Letters may be in upper or lower case.
-   Except in `struct rrcache_place`, the field `line` of a struct is any number that the caller
+   Except in `struct rrcache_place`, the field `line` of a struct may be any number that the caller
    chooses. While a shelf is recording, it keeps this number with each event of the call to which
    the struct is passed. A pointer to octets or to an array may be null only if the size that is
    passed with the pointer is 0.
 
    The names of the exported functions that this header declares begin with `rrc_`. These functions
-   require pointers that are not null, and buffers that do not overlap. The inline functions that a
-   resolver calls check these conditions. They then call an exported function, except
-   `rrcache_compose_response`, `rrcache_tell_octets` and `rrcache_status_text`, which call none. An
-   inline function returns RRCACHE_NULL if a required pointer is null. It returns RRCACHE_OVERLAP if
-   any memory that it writes, including the handle, overlaps another output or an input. There is
-   one exception: if an input struct of a call contains pointers, as `struct rrcache_response` does,
-   an output may overlap any input struct of that call. The function reads these structs before it
-   writes anything. Inputs may overlap each other. The library cannot check whether a handle or a
-   name was initialized to zeros, whether two threads use one handle at the same time, or whether a
-   buffer is as large as the size that is passed with the buffer. */
+   require pointers that are not null, and buffers that do not overlap. A resolver calls inline
+   functions, which check these conditions. The inline functions then call an exported function,
+   except `rrcache_compose_response`, `rrcache_tell_octets` and `rrcache_status_text`, which call
+   none. An inline function returns RRCACHE_NULL if a required pointer is null. It returns
+   RRCACHE_OVERLAP if any memory that it writes, including the handle, overlaps another output or an
+   input. There is one exception: if an input struct of a call contains pointers, as `struct
+   rrcache_response` does, an output may overlap any input struct of that call. The function reads
+   these structs before it writes anything. Inputs may overlap each other. The library cannot check
+   whether a handle or a `struct rrcache_name` was initialized to zeros, whether two threads use one
+   handle at the same time, or whether a buffer is as large as the size that is passed with the
+   buffer. */
 #ifndef RRCACHE_SHELF_H
 #define RRCACHE_SHELF_H
 
@@ -302,8 +306,8 @@
 #include <stddef.h>
 #include <stdint.h>
 
-/* The initializer with which inline functions set a struct to zeros. In C++, the initializer is {},
-   because C++ compilers warn about the fields that {0} leaves out. */
+/* The initializer with which inline functions set a struct to zeros. In C++, the initializer is
+   `{}`, because C++ compilers warn about the fields that `{0}` leaves out. */
 /* clang-format off */
 #ifdef __cplusplus
 #define RRCACHE_ZEROS {}
@@ -343,8 +347,7 @@ enum rrcache_status {
                                      `struct rrcache_name` holds no name */
     RRCACHE_BAD_MESSAGE = 10,     /* the octets cannot be read as a response; `rrcache_fault`
                                      reports the reason */
-    RRCACHE_BAD_CHOICE = 11,      /* the number of a purpose, mode, kind, trust, section or RCODE is
-                                     not valid */
+    RRCACHE_BAD_CHOICE = 11,      /* a purpose, mode, kind, trust, section or RCODE is not valid */
     RRCACHE_BAD_TYPE = 12,        /* in an offer: data of its type are not kept in its class
                                      (docs/RULES.md lists the kept types). In a question: its class
                                      is not kept, or its type is 0. In a parsed response or its
@@ -463,20 +466,20 @@ enum rrcache_response_kind {
                                       there are data. Look up that name and, if the look-up misses,
                                       send a query for it */
     RRCACHE_RESPONSE_FAILURE = 7,  /* the RCODE is neither NOERROR nor NXDOMAIN */
-    RRCACHE_RESPONSE_UNUSABLE = 8  /* none of the kinds above. For example, a response has this
-                                      kind if TC is set, if the opcode is not QUERY, if the class of
-                                      the question is not kept, or if the name of the question is
-                                      out of bailiwick. It also has this kind if the CNAME chain is
-                                      a loop or has more than 16 records, or if the RCODE is
-                                      NXDOMAIN although the answer section has a record of the name
-                                      (but none of the type). Another example is a response that has
-                                      no data, does not deny that there are data, and is not a
-                                      referral. A server that does not serve the zone may send such
-                                      a response. A response with AA set is not a referral, even if
-                                      it has NS records whose owner is below the zone. Data of a
-                                      type that is not kept are skipped. So for a question of any
-                                      such type other than ANY, a NOERROR response has this kind
-                                      unless it is a referral or an alias */
+    RRCACHE_RESPONSE_UNUSABLE = 8  /* none of the kinds above. For example, a response has this kind
+                                      if TC is set, if the opcode is not QUERY, if the class of the
+                                      question is not kept, or if the name of the question is out of
+                                      bailiwick. It also has this kind if the CNAME chain is a loop
+                                      or has more than 16 records, or if the RCODE is NXDOMAIN
+                                      although the answer section has a record of the name (but none
+                                      of the type). Another example is a response that has no data,
+                                      does not deny that there are data, and is not a referral. A
+                                      server that does not serve the zone may send such a response.
+                                      A response with AA set is not a referral, even if it has NS
+                                      records whose owner is below the zone apex. Data of a type
+                                      that is not kept are skipped. So for a question of any such
+                                      type other than ANY, a NOERROR response has this kind unless
+                                      it is a referral or an alias */
 };
 
 /* The reason why octets cannot be read as a response (`rrcache_fault`). */
@@ -529,11 +532,11 @@ struct rrcache_name {
                             Z in lower case; the other octets are unmodified */
 };
 
-/* How names are divided among shelves: `count` is the number of shelves, 1 to 64, and `seed` is the
-   seed in the rules of these shelves. The library hashes names with SipHash-1-3 under this seed,
-   and the upper 32 bits of the hash determine the shelf. Under a different seed, a name may belong
-   to a different shelf. So calls return RRCACHE_OTHER_SEED for a name that was made, or a message
-   that was read, under a seed that is not the seed of the shelf. */
+/* How names are divided among shelves: `count` is the number of shelves, from 1 to 64, and `seed`
+   is the seed in the rules of these shelves. The library hashes names with SipHash-1-3 under this
+   seed, and the upper 32 bits of the hash determine the shelf. Under a different seed, a name may
+   belong to a different shelf. So calls return RRCACHE_OTHER_SEED for a name that was made, or a
+   message that was read, under a seed that is not the seed of the shelf. */
 struct rrcache_parts {
     uint64_t count;
     uint8_t seed[16];
@@ -577,12 +580,13 @@ struct rrcache_entry {
     uint64_t moment; /* the timestamp of the offer that was stored */
     uint64_t number; /* the number of the event that stored the entry; no other entry of the shelf
                         has this number */
-    uint64_t age;    /* not a time, but the number of uses of keys since the last use of this key.
-                        The number of other keys used since then is at most `age`. A key is used
-                        when an entry is stored under it, and when its entry answers an ask. A reply
-                        contains the value that `age` had before the ask or peek. An ask then moves
-                        the entry to the front of the LRU order, but a peek does not. If the entry
-                        is already at the front (`age` 0), an ask does not count as a use */
+    uint64_t age;    /* not a time, but how many times keys of the shelf have been used since the
+                        key of this entry was last used. At most `age` other keys have been used
+                        since then. A key is used when an entry is stored under it, and when its
+                        entry answers an ask. A reply contains the value that `age` had before the
+                        ask or peek. An ask then moves the entry to the front of the LRU order, but
+                        a peek does not. If the entry is already at the front (`age` 0), an ask does
+                        not count as a use */
 };
 
 /* A reply. The first `owner_size` octets of the buffer are the owner of the RRset or, in a negative
@@ -834,14 +838,15 @@ struct rrcache_failure {
    the caller passed together with the callback. */
 typedef int (*rrcache_sink)(void *state, const void *octets, size_t size);
 
-/* The numbers of octets that `rrcache_sizes` adds up. RRCACHE_ENTRY_OCTETS is for a key, including
-   its positions in the LRU order, the map of keys and the expiry queue. RRCACHE_VALUE_OCTETS is for
-   a name, the rdata of a record, or a list of several records, and includes room for
-   RRCACHE_INLINE_OCTETS octets of the name or rdata. Longer names and rdata are stored in a
-   separate block of memory: RRCACHE_BLOCK_OCTETS and the size of the name or rdata are then added.
-   A list of several records is also stored in a separate block, but only RRCACHE_BLOCK_OCTETS is
-   added. RRCACHE_SHARED_OCTETS is for the reference count of a name or of the data of a key, and
-   for the block of memory that contains this count. */
+/* The numbers of octets that `rrcache_sizes` adds up. RRCACHE_ENTRY_OCTETS is added for each key,
+   and includes its positions in the LRU order, the map of keys and the expiry queue.
+   RRCACHE_VALUE_OCTETS is added for each name, for the rdata of each record, and for each list of
+   several records. It includes room for RRCACHE_INLINE_OCTETS octets of the name or rdata. Longer
+   names and rdata are stored in a separate block of memory, for which RRCACHE_BLOCK_OCTETS and the
+   size of the name or rdata are added. A list of several records is also stored in a separate
+   block, for which only RRCACHE_BLOCK_OCTETS is added. RRCACHE_SHARED_OCTETS is added for the
+   reference count of a name or of the data of a key, and includes the block of memory that contains
+   this count. */
 enum {
     RRCACHE_ENTRY_OCTETS = 160,
     RRCACHE_VALUE_OCTETS = 48,
@@ -1264,7 +1269,7 @@ struct rrcache_draft {
     size_t size;
 };
 
-/* Appends `size` octets to a draft. `size` is at least 1. */
+/* Appends `size` octets to a draft. `size` must be at least 1. */
 static inline void rrcache_put(struct rrcache_draft *draft, const uint8_t *octets, size_t size)
 {
     size_t left = RRCACHE_MESSAGE_OCTETS + 1 - draft->size, at;
@@ -1368,12 +1373,13 @@ static inline size_t rrcache_put_response(const struct rrcache_query *query,
    parsed response too. `rrcache_compose_response` never allocates and needs no lock. The time that
    the call takes is linear in the number of octets of its arguments.
 
-   Before this call, the caller must check that the response has QR set and the opcode QUERY, and
-   must compare the identifier and the question of the response with those of the query (RFC 5452
-   section 9.1). If `with_case` of the query is set, the caller must also compare the case of the
-   letters in the name. The new message has QR set, the opcode QUERY, RD clear, and the identifier
-   and question of the query, even if the response had other values. So `rrcache_read_response`
-   never returns RRCACHE_OTHER_QUERY for the new message and the same query.
+   Before this call, the caller must check that QR is set and that the opcode is QUERY in the
+   response, and must compare the identifier and the question of the response with those of the
+   query (RFC 5452 section 9.1). If the field `with_case` of `query` is set, the caller must also
+   compare the case of the letters in the name. In the new message, QR is set, RD is clear, the
+   opcode is QUERY, and the identifier and the question are those of the query, even if the response
+   had other values. So `rrcache_read_response` never returns RRCACHE_OTHER_QUERY for the new
+   message and the same query.
 
    In the message, the RRsets of a section are in the order of the array `sets`, and the records of
    an RRset are in the order of its data. If the records of an RRset have different TTLs, pass one
@@ -1384,13 +1390,13 @@ static inline size_t rrcache_put_response(const struct rrcache_query *query,
    because a pointer would lead to the wrong offset in the new message. `rrcache_compose_response`
    does not check for such pointers.
 
-   Returns RRCACHE_BAD_CHOICE if `section` of a set is not a value of `enum rrcache_section`, or if
-   the RCODE is above 15; RRCACHE_BAD_TYPE if a type or a class is 0, in a set or in the query (RFC
-   6895 reserves type 0 and class 0); RRCACHE_BAD_NAME if an owner or the name of the query is not
-   in wire form; RRCACHE_BAD_DATA if the last rdata of a set are cut off; and RRCACHE_WRONG_BODY if
-   a set has no data. Returns RRCACHE_SMALL if the buffer is too small: the buffer is then
-   unmodified, and `size` is the required size. If the message would have more than
-   RRCACHE_MESSAGE_OCTETS octets, no buffer is large enough, and `size` is
+   Returns RRCACHE_BAD_CHOICE if the field `section` of a set is not a value of `enum
+   rrcache_section`, or if the RCODE is above 15; RRCACHE_BAD_TYPE if a type or a class is 0, in a
+   set or in the query (RFC 6895 reserves type 0 and class 0); RRCACHE_BAD_NAME if an owner or the
+   name of the query is not in wire form; RRCACHE_BAD_DATA if the last rdata of a set are cut off;
+   and RRCACHE_WRONG_BODY if a set has no data. Returns RRCACHE_SMALL if the buffer is too small:
+   the buffer is then unmodified, and `size` is the required size. If the message would have more
+   than RRCACHE_MESSAGE_OCTETS octets, no buffer is large enough, and `size` is
    RRCACHE_MESSAGE_OCTETS + 1. The new message may be too large even if the response was not,
    because only owners are compressed in the new message. In this case, leave out the additional
    section. */
@@ -1457,14 +1463,14 @@ static inline enum rrcache_status rrcache_can_read(const struct rrcache_response
    RRCACHE_OTHER_QUERY and does not read the rest of the message. So the time needed to reject such
    a message does not depend on the length of the message. Anyone may have sent the message, so the
    caller should drop it and keep waiting for the response. The call also returns
-   RRCACHE_OTHER_QUERY if the message is too short for a header, or if QR is clear. If `with_case`
-   of the query is set, a name with a letter in a different case counts as different. A name that is
-   written with a compression pointer always counts as different. Two errors count as failures of
-   the server (RFC 8767 section 5): RRCACHE_NO_QUESTION, which means that the response is a header
-   without a question, and RRCACHE_BAD_MESSAGE, which means that the message answers the query but
-   cannot be read. If TC is set, RRCACHE_BAD_MESSAGE does not count as a failure: send the query
-   again over TCP. If a server returns FORMERR without a question, the reason may be that the server
-   does not support EDNS (RFC 6891 section 7).
+   RRCACHE_OTHER_QUERY if the message is too short for a header, or if QR is clear. If the field
+   `with_case` of `query` is set, two names that differ only in the case of their letters count as
+   different. The name in the question always counts as different if it contains a compression
+   pointer. Two errors count as failures of the server (RFC 8767 section 5): RRCACHE_NO_QUESTION,
+   which means that the response is a header without a question, and RRCACHE_BAD_MESSAGE, which
+   means that the message answers the query but cannot be read. If TC is set, RRCACHE_BAD_MESSAGE
+   does not count as a failure: send the query again over TCP. If a server returns FORMERR without a
+   question, the reason may be that the server does not support EDNS (RFC 6891 section 7).
 
    The following data are relevant:
    - In the answer section, an RRset is relevant if it meets two conditions. First, its owner is one
@@ -1492,13 +1498,13 @@ static inline enum rrcache_status rrcache_can_read(const struct rrcache_response
      is a referral (RFC 1034 section 4.3.2). This restriction prevents the servers of a zone from
      renewing the delegation of the zone by adding NS records to the authority section of other
      responses. In a referral, AA is clear and the owner of the NS RRset is below `zone`. A repeated
-     referral renews its NS RRset. To let a delegation end when the TTL from the first referral
+     referral renews the NS RRset. To let a delegation end when the TTL from the first referral
      expires, a caller must peek for the NS RRset of each referral before it makes the offers of
      that referral. If an unexpired NS RRset with the same data is cached, the caller must not make
      the offers for the part to which the owner of this RRset belongs.
    - An RRset with more than 16,384 octets of rdata.
-   - In class IN, an RRset of type A if any of its rdata are not 4 octets long, or an RRset of type
-     AAAA if any of its rdata are not 16 octets long.
+   - In class IN, an RRset of type A if the rdata of any record are not 4 octets long, or an RRset
+     of type AAAA if the rdata of any record are not 16 octets long.
 
    Under these rules, a server that is queried for one name can replace the cached data of another
    name only in three cases. First, CNAME records in the server's response lead from the name of the
@@ -1539,9 +1545,9 @@ static inline enum rrcache_status rrcache_read_response(struct rrcache_offers *o
 }
 
 /* Reads a response as `rrcache_read_response` does, but does not compare the response with a query.
-   The handle then holds all offers of the response that are in bailiwick. The call ignores
-   `lowest_ttl` and `clears_denied` of the response. A `response` line of a trace (docs/FORMATS.md)
-   leads to the same offers. The errors are those of `rrcache_read_response`, but
+   The handle then holds all offers of the response that are in bailiwick. The call ignores the
+   fields `lowest_ttl` and `clears_denied` of the argument `response`. A `response` line of a trace
+   (docs/FORMATS.md) leads to the same offers. The errors are those of `rrcache_read_response`, but
    RRCACHE_BAD_MESSAGE replaces RRCACHE_OTHER_QUERY and RRCACHE_NO_QUESTION. Needs no lock. */
 static inline enum rrcache_status
 rrcache_read_message_unchecked(struct rrcache_offers *offers,
@@ -1564,15 +1570,16 @@ rrcache_read_message_unchecked(struct rrcache_offers *offers,
         concerned);
 }
 
-/* Makes all offers that a handle holds for one part. The offers are made to the shelf of this part,
-   with the timestamp of the response. `share->part` is the number of the part, counted from 0, and
-   must be below the number of parts for which the message was read. The handle keeps the offers, so
-   the caller may make the offers for a part again. The shelf keeps its stored data even after the
-   offers of the handle are freed. The call copies no names and no data. In `counts`, the call
-   reports how many of the offers had each outcome. If an offer fails, `counts` covers only the
-   earlier offers. Returns RRCACHE_BAD_RULES if there is no part with the number `share->part`.
-   Returns RRCACHE_OTHER_SEED if the message was read with a seed that is not the seed of the shelf,
-   because asks would not find the data in this shelf. Needs the write lock of the shelf. */
+/* Makes all offers that a handle holds for one part. `shelf` must be the shelf of this part. The
+   offers have the timestamp of the response. `share->part` is the index of the part, counted from
+   0, and must be less than the number of parts for which the message was read. The handle keeps the
+   offers, so the caller may make the offers for a part again. The shelf keeps its stored data even
+   after the offers of the handle are freed. The call copies no names and no data. In `counts`, the
+   call reports how many of the offers had each outcome. If an offer fails, `counts` covers only the
+   earlier offers. Returns RRCACHE_BAD_RULES if there is no part with the index `share->part`.
+   Returns RRCACHE_OTHER_SEED if the message was read under a seed that is not the seed of the
+   shelf, because an ask would not find the data in this shelf. Needs the write lock of the
+   shelf. */
 static inline enum rrcache_status rrcache_offer_read(struct rrcache_shelf *shelf,
                                                      struct rrcache_offers *offers,
                                                      const struct rrcache_share *share,
@@ -1663,11 +1670,11 @@ static inline uint64_t rrcache_data_room(const uint8_t *data, uint64_t size)
 
 /* Writes to `octets` the number of octets of memory that an offer would use if it were stored under
    a new key. The call counts octets in the same way as `rrcache_sizes`. `name`, `told` and `buffer`
-   are the output of `rrcache_tell_offer`. If an offer would use more octets than the limit to which
-   the caller trims the shelf, the trim after this offer would evict all keys. To avoid this, the
-   caller can make only the other offers of the message, with `rrcache_offer_one`, and answer the
-   waiting client from the output of `rrcache_tell_offer`. Returns RRCACHE_SMALL if `buffer_size` is
-   less than the sum of the sizes in `told`. Needs no lock. */
+   must be the output of `rrcache_tell_offer`. If an offer would use more octets than the limit to
+   which the caller trims the shelf, the trim after this offer would evict all keys. To avoid this,
+   the caller can make only the other offers of the message, with `rrcache_offer_one`, and answer
+   the waiting client from the output of `rrcache_tell_offer`. Returns RRCACHE_SMALL if
+   `buffer_size` is less than the sum of the sizes in `told`. Needs no lock. */
 static inline enum rrcache_status rrcache_tell_octets(const struct rrcache_name *name,
                                                       const struct rrcache_told *told,
                                                       const uint8_t *buffer, size_t buffer_size,
@@ -1690,12 +1697,12 @@ static inline enum rrcache_status rrcache_tell_octets(const struct rrcache_name 
 }
 
 /* Makes one of the offers of a handle, and writes the outcome (`enum rrcache_outcome`) to
-   `outcome`. With this call, a caller (for example a validator) can make only those offers of a
-   message that the caller accepts. `pick->index` is the number of the offer, counted from 0. The
-   offer is made to `shelf`, which must be the shelf of the offer's part: the `part` of the name
-   that `rrcache_tell_offer` writes. The call does not check whether `shelf` is the shelf of this
-   part. Returns RRCACHE_NO_OFFERS if the handle has no offer with the number `pick->index`, and
-   RRCACHE_OTHER_SEED if the seed of the shelf is not the seed with which the message was read.
+   `outcome`. With this call, a caller such as a validator can make only those offers of a message
+   that it accepts. `pick->index` is the number of the offer, counted from 0. The offer is made to
+   `shelf`, which must be the shelf of the offer's part: the `part` of the name that
+   `rrcache_tell_offer` writes. The call does not check whether `shelf` is the shelf of this part.
+   Returns RRCACHE_NO_OFFERS if the handle has no offer with the number `pick->index`, and
+   RRCACHE_OTHER_SEED if the seed of the shelf is not the seed under which the message was read.
    Needs the write lock of the shelf. */
 static inline enum rrcache_status rrcache_offer_one(struct rrcache_shelf *shelf,
                                                     struct rrcache_offers *offers,
@@ -1722,16 +1729,16 @@ static inline enum rrcache_status rrcache_free_offers(struct rrcache_offers *off
     return (enum rrcache_status)rrc_free_offers(offers);
 }
 
-/* Offers to a shelf all data of a response that are in bailiwick: the RRsets of the response, and
-   its negative answer or failure. Data of names that belong to other shelves are offered to this
-   shelf too. So if there are other shelves, call `rrcache_read_message_unchecked` instead, and then
-   `rrcache_offer_read` for each shelf that the message concerns. `rrcache_offer_message_unchecked`
-   does not compare the response with a query, and ignores `lowest_ttl` and `clears_denied`. Nothing
-   is offered from a response with TC set ("What is stored" above). In `counts`, the call reports
-   how many of the offers had each outcome. If an offer fails, `counts` covers only the earlier
-   offers. Returns RRCACHE_BAD_LIMITS if a limit is out of range, RRCACHE_BAD_NAME if the zone is
-   not in wire form, and RRCACHE_BAD_MESSAGE if the octets cannot be read as a response. Needs the
-   write lock. */
+/* Offers to a shelf all in-bailiwick data of a response: its RRsets, and its negative answer or
+   failure. Data of names that belong to other shelves are offered to this shelf too. So if there
+   are other shelves, call `rrcache_read_message_unchecked` instead, and then `rrcache_offer_read`
+   for each shelf that the message concerns. `rrcache_offer_message_unchecked` does not compare the
+   response with a query, and ignores the fields `lowest_ttl` and `clears_denied` of the argument
+   `response`. Nothing is offered from a response with TC set ("What is stored" above). In `counts`,
+   the call reports how many of the offers had each outcome. If an offer fails, `counts` covers only
+   the earlier offers. Returns RRCACHE_BAD_LIMITS if a limit is out of range, RRCACHE_BAD_NAME if
+   the zone is not in wire form, and RRCACHE_BAD_MESSAGE if the octets cannot be read as a response.
+   Needs the write lock. */
 static inline enum rrcache_status
 rrcache_offer_message_unchecked(struct rrcache_shelf *shelf,
                                 const struct rrcache_response *response, uint64_t line,
@@ -1971,12 +1978,13 @@ static inline enum rrcache_status rrcache_peek(const struct rrcache_shelf *shelf
      unexpired and of higher rank.
 
    By these rules, the call chooses between the CNAME record and the data of the type in the same
-   way as an ask chooses between an RRset and an NXDOMAIN. As a result, if an address has expired
-   and a newer CNAME record may be returned, the call returns the CNAME record (RFC 8767 section 7).
-   If either of the two conditions above does not hold, the call returns the reply for the type of
-   the question. For a question of type CNAME or ANY, the call always returns the reply for the type
-   (RFC 1034 section 4.3.2). The same applies to a question of type NSEC or RRSIG, because a name
-   with a CNAME record may have NSEC and RRSIG records of its own (RFC 4035 section 2.5).
+   way as an ask chooses between an RRset and an NXDOMAIN. As a result, if an address record has
+   expired and a newer CNAME record may be returned, the call returns the CNAME record (RFC 8767
+   section 7). If either of the two conditions above does not hold, the call returns the reply for
+   the type of the question. For a question of type CNAME or ANY, the call always returns the reply
+   for the type (RFC 1034 section 4.3.2). The same applies to a question of type NSEC or RRSIG,
+   because a name with a CNAME record may have NSEC and RRSIG records of its own (RFC 4035 section
+   2.5).
 
    If the reply is the CNAME record, the resolver then asks for the target of the record, under the
    lock of the target's shelf. If the RRset has several CNAME records, the target is the name in the
@@ -1986,12 +1994,13 @@ static inline enum rrcache_status rrcache_peek(const struct rrcache_shelf *shelf
    A failure belongs to the name and type of the question. So with RRCACHE_STALE_IF_FAILED, an
    expired CNAME record may be returned as a stale answer only if the shelf holds a recent failure
    of the question's type. A failure of type CNAME does not count. A failure of the question is not
-   a failure of the names to which the CNAME record leads. So to learn whether stale answers are
-   acceptable for these names, peek for the question with RRCACHE_NO_STALE. If the reply has the
-   kind RRCACHE_FAILED, ask for each name of the chain with RRCACHE_STALE_NOW. If the shelf holds
-   unexpired data of the question's type, and these data are older than the failure, the peek
-   returns them instead. In this case, call `rrcache_tell_stored`: it also returns the failure, and
-   the `number` fields of the entries show whether the failure was stored after the data. */
+   a failure of the names to which the CNAME record leads, so an ask for these names ignores it. To
+   learn whether stale answers are acceptable for these names, peek for the question with
+   RRCACHE_NO_STALE. If the reply has the kind RRCACHE_FAILED, ask for each name of the chain with
+   RRCACHE_STALE_NOW. If the shelf holds unexpired data of the question's type, and these data are
+   older than the failure, the peek returns them instead. In this case, call `rrcache_tell_stored`:
+   it also returns the failure, and the `number` fields of the entries show whether the failure was
+   stored after the data. */
 static inline enum rrcache_status rrcache_ask_alias(struct rrcache_shelf *shelf,
                                                     const struct rrcache_name *name,
                                                     const struct rrcache_question *question,
@@ -2091,16 +2100,17 @@ static inline enum rrcache_status rrcache_next_expiry(const struct rrcache_shelf
 }
 
 /* Sweeps in steps, so that a call usually takes little time. Each step is a sweep at the timestamp
-   that `rrcache_next_expiry` would then report, and is one event. The call stops when that
-   timestamp is later than `moment`, when at least `most` keys have been removed, or after `most`
-   steps. A call may take a long time for two reasons: all keys that fully expire in the same second
-   are removed in one step, and the first sweep of a shelf visits all its keys. Some steps may
-   remove no key. The call writes to `swept` the number of keys that it removed. `swept->is_done` is
-   1 if no key is left that is fully expired at `moment`, and 0 if such a key may be left.
+   that `rrcache_next_expiry` would report at that point, and is one event. The call stops when that
+   timestamp is later than `sweep->moment`, when at least `sweep->most` keys have been removed, or
+   after `sweep->most` steps. A call may take a long time for two reasons: all keys that fully
+   expire in the same second are removed in one step, and the first sweep of a shelf visits all its
+   keys. Some steps may remove no key. The call writes to `swept` the number of keys that it
+   removed. `swept->is_done` is 1 if no key is left that is fully expired at `sweep->moment`, and 0
+   if such a key may be left.
 
-   Returns RRCACHE_BAD_RULES if `most` is 0. If `moment` is above 2^40, the call returns
-   RRCACHE_MOMENT_TOO_LARGE before the first step. Keys that were removed before an error stay
-   removed, and `swept` counts them. Needs the write lock. */
+   Returns RRCACHE_BAD_RULES if `sweep->most` is 0. If `sweep->moment` is above 2^40, the call
+   returns RRCACHE_MOMENT_TOO_LARGE before the first step. Keys that were removed before an error
+   stay removed, and `swept` counts them. Needs the write lock. */
 static inline enum rrcache_status rrcache_sweep_some(struct rrcache_shelf *shelf,
                                                      const struct rrcache_sweep_at *sweep,
                                                      struct rrcache_swept *swept)
@@ -2114,13 +2124,13 @@ static inline enum rrcache_status rrcache_sweep_some(struct rrcache_shelf *shelf
 }
 
 /* Limits the memory of a shelf. The call evicts the least recently used keys until the remaining
-   keys use at most `limit` octets (`rrcache_sizes`), until it has removed `most` keys, or until no
-   key is left. The call writes to `trimmed` the number of keys that it removed, and the number of
-   octets that the remaining keys use. If this number of octets is still above the limit, call
-   `rrcache_trim` again. If a caller trims the shelf after each message, each trim frees about as
-   many octets as the message added, so no trim takes long. Only the first trim of a shelf
-   visits all keys, to add up their octets. The entries of the remaining keys do not change. Needs
-   the write lock.
+   keys use at most `limit` octets (as `rrcache_sizes` counts them), until it has removed `most`
+   keys, or until no key is left. The call writes to `trimmed` the number of keys that it removed,
+   and the number of octets that the remaining keys use. If this number of octets is still above the
+   limit, call `rrcache_trim` again. If a caller trims the shelf after each message, each trim frees
+   about as many octets as the message added, and takes little time. The exception is the first trim
+   of a shelf, which visits all keys to add up their octets. The entries of the remaining keys do
+   not change. Needs the write lock.
 
    In a trim, the eviction of data is one event: an offer of these data with TTL 0, which clears the
    key. The eviction of a failure is two events: an offer of a failure with TTL 0, and a sweep at
@@ -2131,8 +2141,8 @@ static inline enum rrcache_status rrcache_sweep_some(struct rrcache_shelf *shelf
    A trim does not limit all of the memory that a shelf uses. The first sweep of a shelf visits all
    its keys, and from then on the shelf keeps the times at which its keys fully expire.
    RRCACHE_ENTRY_OCTETS includes room for one expiry time per key, but the shelf may temporarily
-   keep more expiry times than keys (`rrcache_sizes`). SECURITY.md reports how much memory trimmed
-   shelves used in tests.
+   keep more expiry times than keys (see `rrcache_sizes`). SECURITY.md reports how much memory
+   trimmed shelves used in tests.
 
    Returns RRCACHE_BAD_RULES if `limit` or `most` is 0, and RRCACHE_MOMENT_TOO_LARGE if the
    timestamp is above 2^40. In either case, the call does nothing. The call may return
@@ -2324,12 +2334,12 @@ static inline enum rrcache_status rrcache_free_chapters(struct rrcache_chapters 
    also use RRCACHE_BLOCK_OCTETS plus their own size. A name uses RRCACHE_SHARED_OCTETS more than
    rdata of the same size.
 
-   The first `rrcache_trim` of a shelf adds up the octets of all its keys. From then on, the shelf
-   updates this number whenever keys change, so the time that `rrcache_sizes` takes does not grow
-   with the number of keys. Before the first trim, nobody limits the octets, so the shelf does not
-   keep this number, which makes stores faster: each `rrcache_sizes` then visits all keys. If you
-   call `rrcache_sizes` often but do not limit the octets, trim the shelf once, with the limit
-   UINT64_MAX, right after you make it.
+   The first call to `rrcache_trim` for a shelf adds up the octets of all its keys. From then on,
+   the shelf updates this total whenever keys change, so the time that `rrcache_sizes` takes does
+   not grow with the number of keys. Before the first trim, the octets are not limited, and the
+   shelf does not keep this total, which makes storing data faster. Until then, each call to
+   `rrcache_sizes` has to visit all keys. If you call `rrcache_sizes` often but do not limit the
+   octets, trim the shelf once, with `limit` UINT64_MAX, right after you make it.
 
    The number of octets does not include the memory of events and chapters, which keep data even
    after the data have been replaced, evicted or swept. Nor does it include the names and expiry
