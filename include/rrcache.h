@@ -2,11 +2,11 @@
 /* rrcache.h: an RRset cache for recursive DNS resolvers, shared by all threads.
 
    `struct rrcache` is a cache that does its own locking. The cache is written in C, on top of the
-   shelves (shards) of rrcache_shelf.h. The exported functions of the shelves, whose names begin
-   with `rrc_`, are proved to meet their contracts. These functions follow the rules in
-   docs/RULES.md. The inline functions of the headers and the C code of the cache are tested, not
-   proved. A program with one thread, or with its own locks, can use the shelves directly. The terms
-   that both headers use, such as *key* and *entry*, are defined in rrcache_shelf.h.
+   shelves (shards) of rrcache_shelf.h. The names of the exported functions that rrcache_shelf.h
+   declares begin with `rrc_`. These functions follow the rules in docs/RULES.md, and are proved to
+   meet their contracts. The inline functions in the headers and the C code of the cache are tested,
+   not proved. A program with one thread, or with its own locks, can use the shelves directly. The
+   terms that both headers use, such as *key* and *entry*, are defined in rrcache_shelf.h.
 
    The section "A caller's checklist" of SECURITY.md lists what a resolver itself has to do. The
    program examples/stub.c is a complete stub resolver that uses a `struct rrcache`. The program
@@ -17,52 +17,52 @@
    - The library starts no threads.
    - Any thread may call any function at any time, with three exceptions. First, `rrcache_close` may
      be called only while no other call on the cache is running, and it must be the last call on the
-     cache. Second, no function may be called in a signal handler, or in the child of a process that
-     forked while several threads were running. Third, the callback of `rrcache_stop_recording_all`
-     or `rrcache_dump` must not call any function on the same cache.
+     cache. Second, no function may be called from a signal handler, or in the child of a process
+     that forked while several threads were running. Third, the callback of
+     `rrcache_stop_recording_all` or `rrcache_dump` must not call any function on the same cache.
    - A call may block on a lock. If a thread is canceled during a call (`pthread_cancel`, with
      deferred cancellation), the call completes before the thread ends. However, a thread must not
      be canceled during a callback.
    - If a process with one thread forks, the parent and the child each have their own copy of the
      cache. The two copies have the same seed, but neither process sees the data that the other
      process stores after the fork. Processes cannot share a cache.
-   - The library chooses the shelf of a name by a hash of the name under a secret seed. Each shelf
-     has `readers` places (see `struct rrcache_config`). A place is a lock that one thread at a time
-     can hold during a look-up. The library assigns threads to these places in turn. A look-up that
+   - The library chooses the shelf of a name by hashing the name with a secret seed. Each shelf has
+     `readers` places (see `struct rrcache_config`). A place is a lock that one thread at a time can
+     hold during a look-up. The library assigns threads to these places in turn. A look-up that
      changes nothing in its shelf takes only one place: the place of its thread or, if that place is
-     taken, another place. Such look-ups do not block each other, even for the same name, if each
-     shelf has at least as many places as there are threads. A call that changes a shelf keeps new
-     look-ups out of the shelf, and waits until the look-ups already running in the shelf have
-     finished. A look-up changes its shelf if, for example, it moves an entry in the LRU order (see
-     the item on eviction below).
+     taken, another place. If each shelf has at least as many places as there are threads, such
+     look-ups do not block each other, even if they are for the same name. A call that changes a
+     shelf keeps new look-ups out of the shelf, and waits until the look-ups already running in the
+     shelf have finished. A look-up changes its shelf if, for example, it moves an entry in the LRU
+     order (see the item on eviction below).
    - No call holds the locks of two shelves at the same time, so calls are not atomic across
      shelves: while one call looks up or stores data in several shelves, other calls may change
      these shelves. When `rrcache_store` stores several RRsets in one shelf, it may even release the
-     lock of that shelf between two of them. However, these calls are atomic (docs/ARCHITECTURE.md
-     explains why; this is not proved): `rrcache_lookup` if it finds no CNAME record,
-     `rrcache_store_set`, `rrcache_store_negative`, `rrcache_store_failure`, and `rrcache_forget`
-     with a type other than ANY.
+     lock of that shelf between two of them. However, the following calls are atomic
+     (docs/ARCHITECTURE.md explains why, but this is not proved): `rrcache_lookup` if it finds no
+     CNAME record, `rrcache_store_set`, `rrcache_store_negative`, `rrcache_store_failure`, and
+     `rrcache_forget` with a type other than ANY.
    - If a look-up is repeated with the same timestamp and the name is in lower case, the library may
      copy the answer from a memo, which is a saved copy of an earlier answer. The library uses a
      memo only if nothing in the shelf of the name has changed since the earlier answer was
      returned. The library keeps memos only of negative answers and of answers with a single RRset.
-     A look-up that is answered from a memo takes no place. The result of this look-up and its
-     effect on the counters are the same as without a memo.
+     A look-up that is answered from a memo takes no place. Its result and its effect on the
+     counters are the same as without a memo.
    - ThreadSanitizer cannot see the locks in the compiled library. To run a program under
      ThreadSanitizer, compile the files in lib/ with ThreadSanitizer too, and link them before the
      shared library. If you link the static library instead of the shared one, also pass
      `-Wl,--allow-multiple-definition`, because the static library contains the same functions as
      these files. ThreadSanitizer may still falsely report races in `free`, because it does not see
-     how shelves count the references to data. The line `race_top:free$` in a suppressions file
-     prevents these reports.
+     how shelves count the references to data. To suppress these reports, add the line
+     `race_top:free$` to a suppressions file.
    - Eviction follows the LRU order. However, the entry that a look-up finds does not always move to
-     the front of this order, because a move changes the shelf. In a shelf that is at least three
-     quarters full, by octets or by keys, a look-up moves its entry if more than a quarter of the
-     shelf's keys may have been used since the last use of that entry. Otherwise, a look-up moves
-     its entry in only two cases. First, it does so if most of the recent look-ups that took the
-     same place had to move their entries. Second, every look-up moves its entry if `exact_recency`
-     is set or histories are being recorded. docs/RULES.md says which order of eviction a caller can
-     rely on.
+     the front of this order, because a move changes the shelf and therefore blocks other look-ups.
+     In a shelf that is at least three quarters full, by octets or by keys, a look-up moves its
+     entry if more than a quarter of the shelf's keys may have been used since the last use of that
+     entry. Otherwise, a look-up moves its entry in only two cases. First, the look-up does so if
+     most of the recent look-ups that took the same place had to move their entries. Second, every
+     look-up moves its entry if `exact_recency` is set or histories are being recorded.
+     docs/RULES.md describes the order of eviction that a caller can rely on.
 
    Memory
    - An answer is a copy in the caller's buffer. The copy stays valid after the eviction of the
@@ -86,20 +86,21 @@
      first filter uses at most about 1/80 of `octets`, and at most 128 KiB for each shelf. The
      second filter uses 2 to 4 octets for each key that `keys` allows, because its size for each
      shelf is a power of 2. The size of the second filter does not depend on `octets`: with the
-     default number of keys, the filter uses 8 MiB in all shelves together. So if `octets` is small,
-     set `keys` too, to reduce the size of the second filter.
-   - A cache has at most 64 shelves with at most 65,536 keys each, and so at most 4,194,304 keys. An
-     RRset of one address record with a short owner name counts as 320 octets, so a cache holds at
-     most about 1.3 GB of such RRsets, even if `octets` is larger. A million names, each with one A
-     and one AAAA record, count as 640 MB. An NS RRset of two short names counts as 432 octets, and
-     a negative answer with an SOA record of 61 octets of rdata as 477 octets. These numbers are
-     counted octets: by the rule above, plan for about 3.5 GB of memory instead of 1.3 GB, and for
-     about 1.7 GB instead of 640 MB.
+     default number of keys, the filter uses 8 MiB in all shelves together. Therefore, if `octets`
+     is small, also set `keys` to make the second filter smaller.
+   - A cache has at most 64 shelves with at most 65,536 keys each, and therefore at most 4,194,304
+     keys. An RRset of one address record with a short owner name counts as 320 octets, so a cache
+     holds at most about 1.3 GB of such RRsets, even if `octets` is larger. A million names, each
+     with one A and one AAAA record, count as 640 MB. An NS RRset that contains the short names of
+     two servers counts as 432 octets, and a negative answer with an SOA record of 61 octets of
+     rdata as 477 octets. These are octets as the library counts them: by the rule above, plan for
+     about 3.5 GB of memory instead of 1.3 GB, and for about 1.7 GB instead of 640 MB.
    - The configuration of an open cache cannot be changed. The library returns freed memory to
      malloc, and malloc decides whether to return this memory to the operating system.
    - An RRset that would use more memory than its shelf's share of `octets` is not stored. In tests,
-     the largest RRset of a response used 242,208 octets. To let each of 64 shelves store such an
-     RRset, set `octets` to at least 16 MiB. If `octets` has to be smaller, use fewer shelves.
+     the largest RRset of a response used 242,208 octets. To let each of 64 shelves store an RRset
+     of this size, set `octets` to at least 16 MiB. If `octets` has to be smaller, use fewer
+     shelves.
    - Look-ups allocate memory only while histories are being recorded (`rrcache_record_all`).
      `rrcache_next`, `rrcache_stats`, `rrcache_stats_of` and `rrcache_stats_text` never allocate. If
      malloc fails during a call, the call returns RRCACHE_MEMORY, unless it can do without the
@@ -111,9 +112,9 @@
    - A timestamp (`moment`) is a number of seconds, at most 2^40. The timestamp 0 means the current
      time of CLOCK_BOOTTIME, a clock that cannot be set and that keeps running while the machine is
      suspended. If this clock cannot be read, for example in a sandbox, 0 means the time of
-     CLOCK_MONOTONIC. That clock stops while the machine is suspended, so data then expire too late,
-     by the length of the suspension. Each call chooses the clock anew, so a program that enters
-     such a sandbox must enter it before its first call.
+     CLOCK_MONOTONIC. That clock stops while the machine is suspended, so each suspension delays the
+     expiry of data by its length. Each call chooses the clock anew, so a program that runs in such
+     a sandbox must enter it before its first call.
    - A program must either pass 0 in every call, or pass timestamps from its own clock in every
      call. If a program passes 0 in some calls and timestamps from its own clock in others, data
      expire too late or too early. The program's own clock must never be set back. If this clock is
@@ -121,8 +122,8 @@
      a program may pass other timestamps. First, if CLOCK_BOOTTIME can be read, a program that
      passes 0 may also pass seconds of this clock, for example when it restores a dump, because 0
      means the current time of the same clock. Second, any program may call `rrcache_sweep_all` at
-     the timestamp 2^40 to empty the cache. `retry_from` of an answer is a timestamp of the clock
-     that the program uses.
+     the timestamp 2^40 to empty the cache. The field `retry_from` of an answer is a timestamp from
+     the clock that the program uses.
 
    Errors
    - The header rrcache_shelf.h describes the wire form of names, the ownership of memory, and each
@@ -131,7 +132,7 @@
    - A function that fills an answer empties the answer first. On error, the answer is empty: its
      `kind` is RRCACHE_MISS, and `end` holds no name. The exception is RRCACHE_SMALL: the answer
      then contains the RRsets that fit, and `kind` and `end` are unspecified. The answer does not
-     report the required size: make the call again with a larger buffer. If the call was
+     report the required size. Make the call again with a larger buffer. If the call was
      `rrcache_store`, the second call stores the response again.
    - Memory that a call reads must not overlap memory that it writes, with two exceptions. First,
      the name of a request or of a query, and the zone of a response, may be in the buffer of the
@@ -149,14 +150,14 @@
      functions of rrcache_shelf.h, a limit of 0 or a seed of zeros is an error.
 
    ABI
-   - Each struct of this header keeps its size and its fields in all versions with the same soname,
-     because the library reads or writes these structs. */
+   - Each struct in this header keeps its size and its fields in all versions with the same soname,
+     because the library reads or writes the caller's structs. */
 #ifndef RRCACHE_H
 #define RRCACHE_H
 
 #include "rrcache_shelf.h"
 
-/* Each function declaration of this header begins with RRCACHE_API. bin/build-c exports these
+/* Each function declaration in this header begins with RRCACHE_API. bin/build-c exports these
    functions, and tools/manual.py makes man pages from their comments. RRCACHE_API expands to
    nothing, because the exports are selected by a list of names, not by a visibility attribute. */
 #define RRCACHE_API
@@ -198,7 +199,7 @@ struct rrcache_request {
     enum rrcache_mode mode; /* when a stale answer is acceptable; in `rrcache_lookup`, 0 is an
                                error */
     bool takes_glue; /* whether additional data, such as glue, are acceptable; additional data must
-                        not answer a client's question (RFC 2181 section 5.4.1) */
+                        not be used to answer a client's question (RFC 2181 section 5.4.1) */
 };
 
 /* The maximum number of CNAME records that a look-up follows. */
@@ -215,7 +216,7 @@ enum { RRCACHE_MOST_ALIASES = 16 };
    fit, the data are still stored, and the answer contains the RRsets that fit. */
 enum { RRCACHE_ANSWER_OCTETS = 65536 };
 
-/* The answer to a question: a list of RRsets, which `rrcache_next` returns one by one, and a kind.
+/* The answer to a question: a kind, and a list of RRsets, which `rrcache_next` returns one by one.
    An answer without DNAME RRsets has at most RRCACHE_MOST_ALIASES + 1 RRsets. DNAME RRsets can add
    up to RRCACHE_MOST_ALIASES more. An answer from `rrcache_store` may have even more RRsets if the
    type of the query is ANY or is not kept. The caller sets `buffer` and its size `room`, sets
@@ -232,7 +233,7 @@ struct rrcache_answer {
                                 records. `kind` is then RRCACHE_MISS, and a query to a server will
                                 not help */
     bool with_dnames;        /* set by the caller. If true, the DNAME RRset from which a CNAME
-                                record was synthesized precedes the CNAME record (RFC 6672 section
+                                record was synthesized precedes this CNAME record (RFC 6672 section
                                 3.1). For a look-up, the DNAME RRset must be cached; for
                                 `rrcache_store`, it must be in the answer section of the response.
                                 For each answer, the library tries at most 16 names as owners of
@@ -261,7 +262,7 @@ struct rrcache_rrset {
                                    can use them to decide when to prefetch. Two entries of one shelf
                                    never have the same `number`, but entries of two shelves may, and
                                    no field identifies the shelf. So a caller that keeps a security
-                                   status or other data for each entry must look up these data by
+                                   status or other data for each entry must identify the entry by
                                    both a name and `number`. The name is the owner or, for the SOA
                                    record of a negative answer, `end`. In an answer from
                                    `rrcache_store`, `number` and `age` are 0: docs/RULES.md,
@@ -270,9 +271,9 @@ struct rrcache_rrset {
     size_t next;                /* the offset of the next RRset in the buffer */
 };
 
-/* The result of `rrcache_store`. It contains only totals. To find out what happened to each RRset,
-   look up the RRset afterwards, or record a history (`rrcache_record_all`): its events contain the
-   outcome of each offer. */
+/* The result of `rrcache_store`. It counts the outcomes of offers, but does not list them. To find
+   out what happened to each RRset, look up the RRset afterwards, or record a history
+   (`rrcache_record_all`), whose events contain the outcome of each offer. */
 struct rrcache_report {
     struct rrcache_summary summary; /* RCODE, AA and TC of the response, and its kind */
     struct rrcache_counts counts;
@@ -304,13 +305,13 @@ enum { RRCACHE_STATS_OCTETS = 384 };
 
 /* The callback to which `rrcache_stop_recording_all` and `rrcache_dump` write. In each call, the
    callback receives `size` octets of the text of one shelf; `shelf` is the number of that shelf,
-   counted from 0. The octets of a call may end in the middle of a line. The callback must process
-   all these octets, and must return 0 to continue or nonzero to stop. `state` is the pointer that
-   the caller passed together with the callback. During the callback, the library holds no lock of a
-   shelf, but it holds the lock that guards the start and the end of recording. If the callback
-   called a function that needs this lock, the call would never return. So the callback must not
-   call any function on this cache. The callback must return normally: it must not call `longjmp` or
-   throw a C++ exception, and its thread must not be canceled before it returns. */
+   counted from 0. The octets that a call passes may end in the middle of a line. The callback must
+   process all these octets, and must return 0 to continue or nonzero to stop. `state` is the
+   pointer that the caller passed together with the callback. During the callback, the library holds
+   no lock of a shelf, but it holds the lock that is required to start or to stop recording. A call
+   from the callback to a function that requires this lock would never return, so the callback must
+   not call any function on this cache. The callback must return normally: it must not call
+   `longjmp` or throw a C++ exception, and its thread must not be canceled before it returns. */
 typedef int (*rrcache_shelf_sink)(void *state, uint64_t shelf, const void *octets, size_t size);
 
 /* Opens a cache, and stores a pointer to it in `*cache`. A null `config` means a configuration of
@@ -322,9 +323,8 @@ typedef int (*rrcache_shelf_sink)(void *state, uint64_t shelf, const void *octet
 RRCACHE_API enum rrcache_status rrcache_open(struct rrcache **cache,
                                              const struct rrcache_config *config);
 
-/* Closes a cache, and frees all its memory. If `cache` is null, the call does nothing. After the
-   call, the behavior of any other call with the same pointer is undefined, even that of a second
-   `rrcache_close`. */
+/* Closes a cache, and frees all its memory. If `cache` is null, the call does nothing. After that,
+   any call with the same pointer has undefined behavior, even a second `rrcache_close`. */
 RRCACHE_API void rrcache_close(struct rrcache *cache);
 
 /* Looks up the answer to a question. The answer contains the CNAME RRsets of the CNAME chain that
@@ -332,12 +332,12 @@ RRCACHE_API void rrcache_close(struct rrcache *cache);
    reply is an RRset of the question's type, a negative answer (RRCACHE_NODATA or RRCACHE_NXDOMAIN),
    or a miss (RRCACHE_MISS or RRCACHE_FAILED). Even if the reply is a miss, the answer contains the
    CNAME RRsets. At each name of the chain, the call chooses between a CNAME record and data of the
-   type by the rule described at `rrcache_ask_alias` (RFC 1034 section 4.3.2). For a question of
-   type CNAME, ANY, NSEC or RRSIG, no CNAME record is followed.
+   question's type by the rule described at `rrcache_ask_alias` (RFC 1034 section 4.3.2). For a
+   question of type CNAME, ANY, NSEC or RRSIG, the call follows no CNAME record.
 
    With the mode RRCACHE_STALE_IF_FAILED, stale data are acceptable for a name of the chain if
-   resolution of the type has failed recently for that name (RFC 8767 section 5). If resolution of
-   the question itself has failed recently, this failure has two effects. First, with
+   resolution of that name and the question's type has failed recently (RFC 8767 section 5). If
+   resolution of the question itself has failed recently, this failure has two effects. First, with
    RRCACHE_STALE_IF_FAILED, stale data are acceptable for every name of the chain. Second, in every
    mode, a miss at the end of the chain is RRCACHE_FAILED. If resolution has failed recently for
    `end` too, `retry_from` of the answer is the timestamp from which both failures have expired. The
@@ -361,39 +361,40 @@ RRCACHE_API enum rrcache_status rrcache_lookup(struct rrcache *cache,
 /* Looks up the deepest unexpired NS RRset at or above a name. A resolver can start resolution at
    the servers that this RRset names (RFC 1034 section 5.3.3, RFC 9156 section 2). The answer
    contains this RRset, and `end` is its owner. If there is no such RRset, `kind` is RRCACHE_MISS.
-   The call skips an NS RRset while an NXDOMAIN of its owner is the governing entry (docs/RULES.md,
-   "What an ask answers"). The fields `rtype`, `mode` and `takes_glue` of the request are ignored.
-   The DS RRset of a zone is in the parent zone (RFC 4035 section 2.4), so for a question of type
-   DS, pass the name without its first label. If the servers that the NS RRset names cannot be used,
-   for example because their addresses are no longer cached, pass a copy of `end` without its first
-   label to find the next delegation above. This call never returns an expired NS RRset. To find
-   one, call `rrcache_lookup` with type NS and a mode that allows stale data, and set `takes_glue`
-   if the RRset may have come from a referral. The errors are those of `rrcache_lookup`, except
-   RRCACHE_BAD_CHOICE. */
+   The call skips an NS RRset while an NXDOMAIN of its owner name is the governing entry
+   (docs/RULES.md, "What an ask answers"). The fields `rtype`, `mode` and `takes_glue` of the
+   request are ignored. The DS RRset of a zone is in the parent zone (RFC 4035 section 2.4), so for
+   a question of type DS, pass the name without its first label. If the servers that the NS RRset
+   names cannot be used, for example because their addresses are no longer cached, pass a copy of
+   `end` without its first label to find the next delegation above. This call never returns an
+   expired NS RRset. To find one, call `rrcache_lookup` with type NS and a mode that allows stale
+   data, and set `takes_glue` if the RRset may have come from a referral. The errors are those of
+   `rrcache_lookup`, except RRCACHE_BAD_CHOICE. */
 RRCACHE_API enum rrcache_status rrcache_lookup_delegation(struct rrcache *cache,
                                                           const struct rrcache_request *request,
                                                           struct rrcache_answer *answer);
 
 /* Gets the next RRset of an answer, or the first RRset if `*rrset` is all zeros. Returns true if
-   the answer has this RRset. At the end of the answer, returns false and sets `*rrset` to zeros
-   again. The pointers in `rrset` point into the buffer of the answer. */
+   there is such an RRset. At the end of the answer, returns false and sets `*rrset` to zeros again.
+   The pointers in `rrset` point into the buffer of the answer. */
 RRCACHE_API bool rrcache_next(const struct rrcache_answer *answer, struct rrcache_rrset *rrset);
 
 /* Reads the response to a query as `rrcache_read_response` does, and stores the data that are
    relevant to the query: RRsets, a negative answer or a failure. Each of these is stored in the
    shelf of its name. The call leaves out an RRset or a negative answer that would use more memory
-   than one shelf may use. If a limit of `response` is 0, the corresponding limit of the cache
-   applies.
+   than one shelf may use. If a limit in the argument `response` is 0, the corresponding limit of
+   the cache applies.
 
-   Returns RRCACHE_OTHER_QUERY if the octets do not answer the query: the caller then has to drop
-   these octets and keep waiting (RFC 5452 section 9.1). RRCACHE_NO_QUESTION means that the server
-   has failed, and so does RRCACHE_BAD_MESSAGE, unless TC (the bit 0x02 of the third octet) is set.
-   A call that returns one of these three errors stores nothing. A response with an RCODE other than
-   NOERROR and NXDOMAIN, such as SERVFAIL, is stored as a failure of its question if the type of the
-   question is kept. So pass a response with such an RCODE only when no other server is left to
-   query. The RCODE is in the low four bits of the fourth octet of the response. The call stores
-   nothing from a truncated response (TC set), and returns RRCACHE_BAD_MESSAGE if such a response
-   ends inside a record. After any truncated response, send the query again over TCP.
+   Returns RRCACHE_OTHER_QUERY if the octets are not a response to the query. In that case, the
+   caller has to drop these octets and keep waiting (RFC 5452 section 9.1). RRCACHE_NO_QUESTION
+   means that the server has failed, and so does RRCACHE_BAD_MESSAGE, unless TC (the bit 0x02 of the
+   third octet) is set. A call that returns one of these three errors stores nothing. A response
+   with an RCODE other than NOERROR and NXDOMAIN, such as SERVFAIL, is stored as a failure of its
+   question if the type of the question is kept. So pass a response with such an RCODE only if no
+   other server is left to query. The RCODE is in the low four bits of the fourth octet of the
+   response. The call stores nothing from a truncated response (TC set), and returns
+   RRCACHE_BAD_MESSAGE if such a response ends inside a record. After any truncated response, send
+   the query again over TCP.
 
    To read a response without storing it, call `rrcache_read_response` with nonzero limits and with
    a `struct rrcache_parts` that has one part and a seed other than zeros. That call compares the
@@ -402,18 +403,20 @@ RRCACHE_API bool rrcache_next(const struct rrcache_answer *answer, struct rrcach
    way, a resolver with several servers to query can detect the failure of one of them without
    storing a failure.
 
-   The RRsets of a referral are stored, but are not in `answer`. `name` of `report` is the zone of
-   the referral, `rrcache_lookup_delegation` returns the NS RRset, and look-ups with `takes_glue`
-   return the addresses. NS RRsets and addresses with TTL 0 are not stored, so look-ups do not find
-   them. To get them, read the referral without storing it, as described above. An NS RRset with
-   unequal TTLs is left out, unless `lowest_ttl` is set. The NS RRset of a referral has the lowest
-   rank. If the name of the zone was looked up before the zone was delegated, the cache may hold an
-   NXDOMAIN for that name, or a NODATA for that name and type NS. Until that negative answer
-   expires, `rrcache_lookup_delegation` finds only the NS RRset of a zone above the zone of the
-   referral, or none. If `rrcache_lookup_delegation` finds no NS RRset below the zone whose server
-   was queried, call `rrcache_forget` with type NS for the zone of the referral, and store the
-   response again. A cached negative answer for a name server hides its address in the same way:
-   call `rrcache_forget` for this name and the type of the address, and store the response again.
+   The RRsets of a referral are stored, but are not in `answer`. The field `name` of `report` is the
+   zone of the referral, `rrcache_lookup_delegation` returns the NS RRset, and look-ups with
+   `takes_glue` return the addresses. NS RRsets and addresses with TTL 0 are not stored, so look-ups
+   do not find them. To get them, read the referral without storing it, as described above. An NS
+   RRset with unequal TTLs is left out, unless `lowest_ttl` is set. The NS RRset of a referral has
+   the lowest rank, so a cached negative answer takes precedence over it. If the name of the zone
+   was looked up before the zone was delegated, the cache may hold an NXDOMAIN for that name, or a
+   NODATA for that name and type NS. Until that negative answer expires, `rrcache_lookup_delegation`
+   finds either the NS RRset of a zone above the zone of the referral or no NS RRset. If
+   `rrcache_lookup_delegation` finds no NS RRset below the zone whose server was queried, call
+   `rrcache_forget` with type NS for the zone of the referral, and store the response again. A
+   cached negative answer for the name of a server hides the address of the server in the same way.
+   If this happens, call `rrcache_forget` for this name and the type of the address, and store the
+   response again.
 
    `answer` may be null. If it is not null, the call fills `answer` with the answer that the
    response itself contains, including data that are not stored: data with TTL 0, data that are too
@@ -422,16 +425,16 @@ RRCACHE_API bool rrcache_next(const struct rrcache_answer *answer, struct rrcach
    neither stored nor returned in `answer`. If that RRset contains the data of the query's type, or
    a CNAME record that leads to these data, `kind` of `answer` is RRCACHE_MISS. For a query of type
    ANY, `answer` contains all RRsets that the answer section has for the name of the query, except
-   those that are left out because their TTLs are unequal. However, a look-up of type ANY does not
-   find these RRsets even if they were stored, because each RRset is stored under its own type. If
-   the response is stored as a failure, `kind` of `answer` is RRCACHE_FAILED.
+   those that are left out because their TTLs are unequal. However, a later look-up of type ANY
+   finds none of the RRsets in `answer`, even if they were stored, because each RRset is stored
+   under its own type. If the response is stored as a failure, `kind` of `answer` is RRCACHE_FAILED.
 
    To fill `answer`, the call follows at most RRCACHE_MOST_ALIASES CNAME records, and returns RRsets
-   of any size. The limits for stored data are lower: at most 11 CNAME records are followed, and an
-   RRset with more than 16,384 octets of rdata is not relevant. In `answer`, rdata of types A and
-   AAAA may have any length. Each record of a type that is not kept, such as NAPTR, is returned as a
-   separate RRset. For a query of such a type, `kind` is RRCACHE_NODATA if the response denies, with
-   an SOA record, that data of the type exist. If the query is of type NSEC or RRSIG and the answer
+   of any size. The limits for stored data are lower: at most 11 CNAME records are followed, and no
+   RRset with more than 16,384 octets of rdata is stored. In `answer`, rdata of types A and AAAA may
+   have any length. Each record of a type that is not kept, such as NAPTR, is returned as a separate
+   RRset. For a query of such a type, `kind` is RRCACHE_NODATA if the response denies that data of
+   the type exist, and contains an SOA record. If the query is of type NSEC or RRSIG and the answer
    section has records of this type for the name of the query, `answer` contains these records. No
    CNAME record is then followed, even if the kind of the response is RRCACHE_RESPONSE_ALIAS. If
    only `report` contains the result, as for a negative response without an SOA record, `kind` of
@@ -439,14 +442,14 @@ RRCACHE_API bool rrcache_next(const struct rrcache_answer *answer, struct rrcach
 
    If the response contains only the beginning of a CNAME chain, the kind of the response is
    RRCACHE_RESPONSE_ALIAS, and `kind` of `answer` is RRCACHE_MISS. Keep the CNAME RRsets of this
-   answer, and look up `end` next. Do not look up the name of the query again: if a CNAME record of
-   the chain has TTL 0, the record is not stored, and the look-up misses again.
+   answer, and look up `end` next. Do not look up the name of the query again: a CNAME record with
+   TTL 0 is not stored, so if the chain has such a record, that look-up would be a miss again.
 
    Check the `kind` of the answer first. Check the kind of the response only if the answer is a
    miss, because records of a type that is not kept do not affect the kind of a response. If the
-   query is of such a type and the response contains the data or denies that they exist, the kind of
-   the response is usually RRCACHE_RESPONSE_UNUSABLE or, if a CNAME record leads to the data,
-   RRCACHE_RESPONSE_ALIAS.
+   query is of such a type, and the response contains data of the type or denies that there are any,
+   the kind of the response is usually RRCACHE_RESPONSE_UNUSABLE or, if a CNAME record leads to the
+   data, RRCACHE_RESPONSE_ALIAS.
 
    Also returns RRCACHE_BAD_LIMITS if a limit is out of range, and RRCACHE_BAD_NAME if the zone or
    the name of the query is not in wire form. If the call fails before it has read the response,
@@ -500,15 +503,15 @@ RRCACHE_API enum rrcache_status rrcache_forget(struct rrcache *cache,
 
 /* Removes fully expired keys until at least `most` keys have been removed or no fully expired key
    is left. A key is fully expired if its entry can answer no question at `moment`, not even as
-   stale data. `most` must be at least 1. The call writes to `swept` how many keys it removed;
-   `is_done` of `swept` is 1 if no fully expired key is left, and 0 if such a key may be left. A
-   sweep continues where the previous sweep ended. The call releases the locks of a shelf after
-   every 64 keys, and lets threads that wait for these locks go first. However, the call does not
-   release the locks while it removes keys that expire in the same second, or while the first sweep
-   of a shelf visits all keys of the shelf. Sweeps are optional, because eviction makes room. A
-   sweep at the timestamp 2^40 removes each key whose entry has a timestamp below 2^40 - 2^32. So a
-   caller with a clock such as CLOCK_BOOTTIME can empty the cache in this way, if `most` is at least
-   the number of keys. Later calls may pass smaller timestamps.
+   stale data. `most` must be at least 1. The call writes the number of keys that it removed to
+   `swept`; the field `is_done` of `swept` is 1 if no fully expired key is left, and 0 if such a key
+   may be left. A sweep continues where the previous sweep ended. The call releases the locks of a
+   shelf after every 64 keys, and lets threads that wait for these locks go first. However, the call
+   does not release the locks while it removes keys that expire in the same second, or while the
+   first sweep of a shelf visits all keys of the shelf. Sweeps are optional, because eviction makes
+   room. A sweep at the timestamp 2^40 removes each key whose entry has a timestamp below 2^40 -
+   2^32. So a caller whose timestamps come from a clock such as CLOCK_BOOTTIME can empty the cache
+   in this way, if `most` is at least the number of keys. Later calls may pass smaller timestamps.
 
    Returns RRCACHE_BAD_RULES if `most` is 0. May also return RRCACHE_MOMENT_TOO_LARGE,
    RRCACHE_HISTORY_FULL or RRCACHE_MEMORY; `swept` then contains the number of keys that were
@@ -539,8 +542,8 @@ RRCACHE_API enum rrcache_status rrcache_stats_of(struct rrcache *cache, uint64_t
                                                  struct rrcache_stats *stats);
 
 /* Writes the counters of `stats` to `text` as one line for a log, for example `hits 12 stale 0 ..`.
-   The line ends with a zero octet, and has no LF. Returns RRCACHE_SMALL if the line and its zero
-   octet do not fit into `size` octets. */
+   The line ends with a zero octet, and contains no LF. Returns RRCACHE_SMALL if the line and its
+   zero octet do not fit into `size` octets. */
 RRCACHE_API enum rrcache_status rrcache_stats_text(const struct rrcache_stats *stats, char *text,
                                                    size_t size);
 
@@ -566,13 +569,13 @@ RRCACHE_API enum rrcache_status rrcache_stop_recording_all(struct rrcache *cache
    contents at one point in time, because other calls on the shelf wait while `rrcache_dump` lists
    the keys of the shelf. The call allocates memory for the keys of one shelf at a time. No call
    reads this text back into a cache. However, a caller can store each entry in a new cache, with
-   the rank, TTL and timestamp from the entry's line. Store the entries shelf by shelf, and the
-   entries of one shelf in the order of their event numbers, because each shelf numbers its own
-   events. After a restart of the machine, CLOCK_BOOTTIME begins at zero again, so the caller must
-   first convert the timestamps (docs/RULES.md, "Listing and saving keys"). docs/CAPTURES.md, "A
-   wrong answer", says what a dump shows about an answer. Returns RRCACHE_HAS_CHAPTERS while
-   histories are being recorded, and RRCACHE_SINK if the sink returns nonzero. May also return
-   RRCACHE_HISTORY_FULL or RRCACHE_MEMORY. */
+   the rank, TTL and timestamp from the entry's line. Each shelf numbers its own events, so store
+   the entries shelf by shelf, and those of one shelf in the order of their event numbers. After a
+   restart of the machine, CLOCK_BOOTTIME begins at zero again, so the caller must first convert the
+   timestamps (docs/RULES.md, "Listing and saving keys"). docs/CAPTURES.md, "A wrong answer", says
+   what a dump shows about an answer. Returns RRCACHE_HAS_CHAPTERS while histories are being
+   recorded, and RRCACHE_SINK if the sink returns nonzero. May also return RRCACHE_HISTORY_FULL or
+   RRCACHE_MEMORY. */
 RRCACHE_API enum rrcache_status rrcache_dump(struct rrcache *cache, rrcache_shelf_sink sink,
                                              void *state);
 
