@@ -77,9 +77,11 @@
      eviction. `octets` limits only the memory of the keys, and an allocator may use more memory for
      them than is counted. Therefore, plan for two and a half times `octets`, and also for the
      memory that the next item describes. The total is about 2.575 times `octets`, plus 4 octets for
-     each key that `keys` allows (2 octets with the default `keys`). For a total of 512 MiB with the
-     default `keys`, for example, set `octets` to 192 MiB. SECURITY.md reports the measurements
-     behind the factor of two and a half, and says what was not measured.
+     each key that `keys` allows (2 octets with the default `keys`). For a cache that takes 512 MiB
+     in total with the default `keys`, for example, set `octets` to 192 MiB. The other memory of the
+     process comes on top of this total. It includes the memory of running calls: for one message of
+     65,535 octets, `rrcache_store` may need about 5 MB until it returns. SECURITY.md reports the
+     measurements behind the factor of two and a half, and says what was not measured.
    - In addition, `rrcache_open` allocates the places, the memos, and two filters: one for the names
      that may own a CNAME RRset, and one for the names that may have an NXDOMAIN or a failure. All
      memos together use at most 1/16 of `octets`, and at most about 460 KiB times `readers`. The
@@ -265,7 +267,8 @@ struct rrcache_rrset {
                                    status or other data for each entry must identify the entry by
                                    both a name and `number`. The name is the owner or, for the SOA
                                    record of a negative answer, `end`. In an answer from
-                                   `rrcache_store`, `number` and `age` are 0: docs/RULES.md,
+                                   `rrcache_store`, `number` and `age` are 0 and mean nothing: the
+                                   first entry of a shelf also has the `number` 0. docs/RULES.md,
                                    "DNSSEC", says how the caller gets the `number` of the entry that
                                    was stored */
     size_t next;                /* the offset of the next RRset in the buffer */
