@@ -89,7 +89,7 @@
      second filter uses 2 to 4 octets for each key that `keys` allows, because its size for each
      shelf is a power of 2. The size of the second filter does not depend on `octets`: with the
      default number of keys, the filter uses 8 MiB in all shelves together. Therefore, if `octets`
-     is small, also set `keys` to make the second filter smaller.
+     is small, also set `keys` to a smaller number, so that the second filter is smaller.
    - A cache has at most 64 shelves with at most 65,536 keys each, and therefore at most 4,194,304
      keys. An RRset of one address record with a short owner name counts as 320 octets, so a cache
      holds at most about 1.3 GB of such RRsets, even if `octets` is larger. A million names, each
