@@ -80,7 +80,7 @@ def test_what_the_document_says_of_a_bound_is_the_bound():
     from tools.captures import traffic, waits
     with patch("sys.argv", ["from-capture"]):
         command = runpy.run_path(str(TOP / "bin" / "from-capture"))
-    for number, text in ((traffic.SERVERS_MOST, "Of each NS RRset, at most {:,} names are used"),
+    for number, text in ((traffic.SERVERS_MOST, "at most {:,} server names from each NS RRset"),
                          (traffic.GUESSED_FROM, "from the first {:,} messages"),
                          (command["LINES_MOST"], "A trace has at most {:,} lines"),
                          (traffic.TWICE_MICROSECONDS // 1_000, "seen twice within {} milliseconds"),
