@@ -5,6 +5,7 @@ ghost use Rattle.rrc_history.specs.Past.{entry_of};
 ghost use Rattle.rrc_cache.specs.Keyed.{name_hash};
 ghost use Rattle.rrc_cache.specs.Taken.{IsPlaced, IsTaken};
 
+use crate::ahead;
 use crate::replaced::Replaced;
 use crate::store::Store;
 use rrc_history::{Entry, Offer, Outcome, verdict};
@@ -62,6 +63,7 @@ pub(crate) fn take(
     ensures stale { store.new.stale ≡ store.old.stale }
     ensures err { OnErr result (store.new ≡ store.old) }
 {
+    ahead::load_last(store);
     let key = KeyRef::of(&offer.key);
     let hash = store.hash_of(key.name);
     let held = store.get(hash, key).held;

@@ -8,7 +8,7 @@ ghost use Rattle.rrc_history.specs.Entries.{fully_expired_keys};
 ghost use Rattle.rrc_history.specs.Lives.{LAST_MOMENT};
 ghost use Rattle.rrc_history.specs.Past.{entry_at, is_among};
 ghost use Rattle.rrc_history.specs.Right.{is_swept};
-ghost use Rattle.rrc_cache.specs.ExpiryQueue.{AreQueued, expired_among, expiries_of, is_expired_by};
+ghost use Rattle.rrc_cache.specs.ExpiryQueue.{AreQueued, HasSameExpiries, expired_among, expiries_of, is_expired_by};
 ghost use Rattle.rrc_cache.specs.Keyed.{hashed_entries};
 
 use crate::clocked::Stamped;
@@ -148,6 +148,26 @@ pub(crate) fn expiry_if_sooner(
         time,
         key: key.clone()?,
     }))
+}
+
+/// The expiry of an entry that is about to be put, for which it makes room in the queue, or `None`
+/// where no expiries are kept.
+pub(crate) fn expiry_to_keep(
+    queue: &mut ExpiryQueue,
+    entry: &Entry,
+    time: u64,
+) -> Result<Option<Expiry>, AllocError>
+    ensures some { IfOk result (λ made. IfSome made (λ expiry. expiry ≡ record { time = time; key = entry.now.key })) }
+    ensures room { IfOk result (λ made. IfSome made (λ _. 0 < queue.new.room)) }
+    ensures none { IfOk result (λ made. IfNone made (queue.new.kept ≡ false)) }
+    ensures same { HasSameExpiries queue.new queue.old }
+{
+    if !queue.is_kept() {
+        return Ok(None);
+    }
+    let key = entry.key.clone()?;
+    queue.reserve()?;
+    Ok(Some(Expiry { time, key }))
 }
 
 /// Whether what a key held, if anything, is fully expired at a time or before.

@@ -18,7 +18,7 @@ ghost use Rattle.rrc_cache.specs.Seeds.{IsHashOf};
 
 use crate::aged_held::AgedHeld;
 use crate::ahead;
-use crate::expiries::{expiries_of, expiry_if_sooner, is_expired_by};
+use crate::expiries::{expiries_of, expiry_if_sooner, expiry_to_keep, is_expired_by};
 use crate::expiry_queue::{Expiry, ExpiryQueue, full_expiry, full_expiry_of};
 use crate::filtered_entries::FilteredEntries;
 use crate::name_hash::NameHash;
@@ -251,17 +251,17 @@ impl Store {
         ensures err { OnErr result (self.new ≡ self.old) }
     {
         let time = full_expiry_of(&entry, self.stale);
-        if !self.queue.is_kept() {
-            self.filtered.put(hash, entry)?;
-            self.queue.note(time);
-            return Ok(());
-        }
-        let key = entry.key.clone()?;
-        self.queue.reserve()?;
+        let expiry = expiry_to_keep(&mut self.queue, &entry, time)?;
+        // Only here is an entry put, so that the calls below this one are compiled inline.
         let old = self.filtered.put(hash, entry)?;
-        if !is_expired_by(old, self.stale, time) {
-            let expiry = Expiry { time, key };
-            self.queue.add(expiry);
+        let is_queued = is_expired_by(old, self.stale, time);
+        match expiry {
+            Some(expiry) => {
+                if !is_queued {
+                    self.queue.add(expiry);
+                }
+            }
+            None => self.queue.note(time),
         }
         Ok(())
     }
