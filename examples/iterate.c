@@ -114,8 +114,9 @@ static bool find(struct step *step)
 
 /* Reads the packet, and stores its data. Returns its kind, or 0 if it does not answer the query. If
    the server has failed, nothing is stored: it would be a failure of the name, and other servers
-   may be left. If the name of a zone was denied before the zone was delegated, the denial hides the
-   delegation, and has to be forgotten. */
+   may be left. Nothing is stored from a lame server either, which neither is authoritative nor
+   refers to a zone below. If the name of a zone was denied before the zone was delegated, the
+   denial hides the delegation, and has to be forgotten. */
 static uint32_t take_packet(void)
 {
     const struct rrcache_parts parts = {.count = 1, .seed = {1}};
@@ -127,6 +128,9 @@ static uint32_t take_packet(void)
     rrcache_tell_response(&offers, &report.name, &report.summary);
     rrcache_free_offers(&offers);
     uint32_t kind = status == RRCACHE_OTHER_QUERY ? 0 : report.summary.kind;
+    bool is_lame = !report.summary.aa && kind != RRCACHE_RESPONSE_REFERRAL;
+    if (kind != 0 && is_lame)
+        return RRCACHE_RESPONSE_FAILURE;
     if (kind != 0 && kind != RRCACHE_RESPONSE_FAILURE)
         rrcache_store(cache, &query, &response, &report, &answer);
     if (kind == RRCACHE_RESPONSE_REFERRAL

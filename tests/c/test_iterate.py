@@ -11,7 +11,7 @@ from contextlib import ExitStack, suppress
 
 import dns.name
 import pytest
-from dns.flags import AA, TC
+from dns.flags import AA, RA, TC
 from dns.rcode import NOERROR, NXDOMAIN, REFUSED, SERVFAIL
 from dns.rdatatype import A, CNAME, NS
 
@@ -250,6 +250,19 @@ def test_names_that_are_given_up(name, iterate, servers):
     status, addresses, asked = iterate(name, WWW)
     assert (status, addresses) == (1, []) and len(set(asked)) == len(asked) <= STEPS
     assert (OTHER, "n19.other") not in asked
+
+
+@pytest.mark.parametrize("lines", [
+    pytest.param({"": (f"{{}} 60 A {FORGED}",)}, id="with an answer"),
+    pytest.param({"": (f"{{}} 60 CNAME {WWW}",)}, id="with an alias"),
+    pytest.param({"authority": cut("example", EXAMPLE)[:1]}, id="with a referral upwards"),
+    pytest.param({"authority": [SOA], "rcode": NXDOMAIN}, id="with a denial"),
+    pytest.param({}, id="with nothing")])
+def test_a_lame_server_that_is_a_resolver(lines, iterate, servers):
+    """It sets RA and not AA, so what it has is from a cache, and the next server is asked."""
+    name, others = "www.lame.example", {key: it for key, it in lines.items() if key}
+    servers.answers[LAME] = told(*lines.get("", ()), **others, flags=RA)
+    assert iterate(name, name) == (0, ["192.0.2.5"] * 2, by_referral(name, LAME, OF_A))
 
 
 def test_a_denial_that_is_not_stored_ends_the_question(iterate, servers):
