@@ -4,9 +4,10 @@
    `struct rrcache` is a cache that does its own locking. The cache is written in C, on top of the
    shelves (shards) of rrcache_shelf.h. The names of the exported functions that rrcache_shelf.h
    declares begin with `rrc_`. These functions follow the rules in docs/RULES.md, and are proved to
-   meet their contracts. The inline functions in the headers and the C code of the cache are tested,
-   not proved. A program with one thread, or with its own locks, can use the shelves directly. The
-   terms that both headers use, such as *key* and *entry*, are defined in rrcache_shelf.h.
+   meet their contracts. The inline functions in rrcache_shelf.h and the C code of the cache are
+   tested, not proved. A program with one thread, or with its own locks, can use the shelves
+   directly. The terms that both headers use, such as *key* and *entry*, are defined in
+   rrcache_shelf.h.
 
    The section "A caller's checklist" of SECURITY.md lists what a resolver itself has to do. The
    program examples/stub.c is a complete stub resolver that uses a `struct rrcache`. The program
@@ -83,7 +84,8 @@
      65,535 octets, `rrcache_store` may need about 5 MB until it returns. SECURITY.md reports the
      measurements behind the factor of two and a half, and says what was not measured.
    - In addition, `rrcache_open` allocates the places, the memos, and two filters: one for the names
-     that may own a CNAME RRset, and one for the names that may have an NXDOMAIN or a failure. All
+     that may own a CNAME RRset, and one for the names that may have an NXDOMAIN or a failure. The
+     places use 64 octets for each reader and shelf (256 KiB for 64 readers and 64 shelves). All
      memos together use at most 1/16 of `octets`, and at most about 460 KiB times `readers`. The
      first filter uses at most about 1/80 of `octets`, and at most 128 KiB for each shelf. The
      second filter uses 2 to 4 octets for each key that `keys` allows, because its size for each
@@ -262,15 +264,15 @@ struct rrcache_rrset {
     struct rrcache_entry entry; /* the entry that the RRset comes from. Its `ttl` and `moment` are
                                    the TTL and the timestamp with which it was stored. A resolver
                                    can use them to decide when to prefetch. Two entries of one shelf
-                                   never have the same `number`, but entries of two shelves may, and
-                                   no field identifies the shelf. So a caller that keeps a security
-                                   status or other data for each entry must identify the entry by
-                                   both a name and `number`. The name is the owner or, for the SOA
-                                   record of a negative answer, `end`. In an answer from
-                                   `rrcache_store`, `number` and `age` are 0 and mean nothing: the
-                                   first entry of a shelf also has the `number` 0. docs/RULES.md,
-                                   "DNSSEC", says how the caller gets the `number` of the entry that
-                                   was stored */
+                                   never have the same `number`, but entries of two shelves or of
+                                   two caches may, and no field identifies the shelf. So a caller
+                                   that keeps a security status or other data for each entry must
+                                   identify the entry by both a name and `number`. The name is the
+                                   owner or, for the SOA record of a negative answer, `end`. In an
+                                   answer from `rrcache_store`, `number` and `age` are 0 and mean
+                                   nothing: the first entry of a shelf also has the `number` 0.
+                                   docs/RULES.md, "DNSSEC", says how the caller gets the `number` of
+                                   the entry that was stored */
     size_t next;                /* the offset of the next RRset in the buffer */
 };
 
