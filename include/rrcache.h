@@ -78,11 +78,11 @@
      eviction. `octets` limits only the memory of the keys, and an allocator may use more memory for
      them than is counted. Therefore, plan for two and a half times `octets`, and also for the
      memory that the next item describes. The total is about 2.575 times `octets`, plus 4 octets for
-     each key that `keys` allows (2 octets with the default `keys`). For a cache that takes 512 MiB
-     in total with the default `keys`, for example, set `octets` to 192 MiB. The other memory of the
-     process comes on top of this total. It includes the memory of running calls: for one message of
-     65,535 octets, `rrcache_store` may need about 5 MB until it returns. SECURITY.md reports the
-     measurements behind the factor of two and a half, and says what was not measured.
+     each key that `keys` allows (2 octets with the default `keys`). For example, if the cache alone
+     may take 512 MiB, set `octets` to 192 MiB, and leave `keys` at its default. The other memory of
+     the process comes on top of this total. It includes the memory of running calls: for one
+     message of 65,535 octets, `rrcache_store` may need about 5 MB until it returns. SECURITY.md
+     reports the measurements behind the factor of two and a half, and says what was not measured.
    - In addition, `rrcache_open` allocates the places, the memos, and two filters: one for the names
      that may own a CNAME RRset, and one for the names that may have an NXDOMAIN or a failure. The
      places use 64 octets for each reader and shelf (256 KiB for 64 readers and 64 shelves). All
@@ -124,10 +124,10 @@
      expire too late or too early. The program's own clock must never be set back. If this clock is
      set forward, all data suddenly become older: see "Timestamps" in rrcache_shelf.h. In two cases,
      a program may pass other timestamps. First, if CLOCK_BOOTTIME can be read, a program that
-     passes 0 may also pass seconds of this clock, for example when it restores a dump, because 0
-     means the current time of the same clock. Second, any program may call `rrcache_sweep_all` at
-     the timestamp 2^40 to empty the cache. The field `retry_from` of an answer is a timestamp from
-     the clock that the program uses.
+     passes 0 may also pass seconds of this clock, for example to log them, or when it restores a
+     dump, because 0 means the current time of the same clock. Second, any program may call
+     `rrcache_sweep_all` at the timestamp 2^40 to empty the cache. The field `retry_from` of an
+     answer is a timestamp from the clock that the program uses.
 
    Errors
    - The header rrcache_shelf.h describes the wire form of names, the ownership of memory, and each
@@ -234,8 +234,9 @@ struct rrcache_answer {
     uint32_t aliases;        /* the number of CNAME RRsets that lead to `end` */
     bool is_stale;           /* at least one of the RRsets is stale */
     bool is_endless;         /* the CNAME chain is a loop, or has more than RRCACHE_MOST_ALIASES
-                                records. `kind` is then RRCACHE_MISS, and a query to a server will
-                                not help */
+                                records. `kind` is then RRCACHE_MISS. If the answer is from a
+                                look-up, a query to a server will not help; if it is from
+                                `rrcache_store`, another server may send another response */
     bool with_dnames;        /* set by the caller. If true, the DNAME RRset from which a CNAME
                                 record was synthesized precedes this CNAME record (RFC 6672 section
                                 3.1). For a look-up, the DNAME RRset must be cached; for
@@ -401,6 +402,10 @@ RRCACHE_API bool rrcache_next(const struct rrcache_answer *answer, struct rrcach
    RRCACHE_BAD_MESSAGE if such a response ends inside a record. After any truncated response, send
    the query again over TCP.
 
+   If the query has RD clear, and the response has AA clear and is not a referral, the server is not
+   authoritative for the zone, so do not store the response, and query another server
+   (docs/RULES.md, "Lame delegations").
+
    To read a response without storing it, call `rrcache_read_response` with nonzero limits and with
    a `struct rrcache_parts` that has one part and a seed other than zeros. That call compares the
    response with the query as `rrcache_store` does. Then `rrcache_tell_response` returns the kind
@@ -496,8 +501,9 @@ RRCACHE_API enum rrcache_status rrcache_store_failure(struct rrcache *cache,
    the shelf after every 256 types. Data that other threads store for the name during the call may
    remain. If a shelf has never been swept, the first call that removes a failure from it takes as
    long as a first sweep, which visits all keys of the shelf. The fields `mode` and `takes_glue` of
-   the request are ignored. No call removes the data of all names below a name: docs/RULES.md,
-   "Flushing", says what to do instead.
+   the request are ignored. No call removes the data of all names below a name. A response that
+   arrives later may bring back the data that were removed. docs/RULES.md, "Flushing", says what to
+   do in both cases.
 
    Returns RRCACHE_BAD_NAME if the name is not in wire form, and RRCACHE_BAD_TYPE if the type is 0
    or the class is not kept. If there are data to remove, the call may also return
