@@ -126,7 +126,7 @@
      a program may pass other timestamps. First, if CLOCK_BOOTTIME can be read, a program that
      passes 0 may also pass seconds of this clock, for example to log them, or when it restores a
      dump, because 0 means the current time of the same clock. Second, any program may call
-     `rrcache_sweep_all` at the timestamp 2^40 to empty the cache. The field `retry_from` of an
+     `rrcache_sweep_all` with the timestamp 2^40 to empty the cache. The field `retry_from` of an
      answer is a timestamp from the clock that the program uses.
 
    Errors
