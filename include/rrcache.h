@@ -3,11 +3,11 @@
 
    `struct rrcache` is a cache that does its own locking. The cache is written in C, on top of the
    shelves (shards) of rrcache_shelf.h. The names of the exported functions that rrcache_shelf.h
-   declares begin with `rrc_`. These functions follow the rules in docs/RULES.md, and are proved to
-   meet their contracts. The inline functions in rrcache_shelf.h and the C code of the cache are
-   tested, not proved. A program with one thread, or with its own locks, can use the shelves
-   directly. The terms that both headers use, such as *key* and *entry*, are defined in
-   rrcache_shelf.h.
+   declares begin with `rrc_`. These functions, except `rrc_version`, follow the rules in
+   docs/RULES.md, and are proved to meet their contracts. The inline functions in rrcache_shelf.h
+   and the C code of the cache are tested, not proved. A program with one thread, or with its own
+   locks, can use the shelves directly. The terms that both headers use, such as *key* and *entry*,
+   are defined in rrcache_shelf.h.
 
    The section "A caller's checklist" of SECURITY.md lists what a resolver itself has to do. The
    program examples/stub.c is a complete stub resolver that uses a `struct rrcache`. The program
